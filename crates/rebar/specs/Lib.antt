@@ -1,0 +1,5 @@
+pub mod Grades
+pub mod Marks
+pub mod Combinations
+pub mod Actions
+pub mod Steel
