@@ -1,6 +1,9 @@
 ghost use Prim.Native.Nat.{_≤_, _%_};
 ghost use mathlib.Core.Path.{_≡_};
 
+mod face_sizes; // diameter and area of the bars of a face
+mod tie_sizes; // diameter and area of ties
+
 // The bars of one face: their mark, and how many.
 #[derive(Clone, Copy)]
 pub struct Bars {

@@ -3,8 +3,8 @@ pub mod actions; // factored actions of a set of loads
 pub mod beam; // a beam with its actions
 pub mod cage; // bars of a face, ties, cages
 pub mod loads; // moments and shears of four load cases at three stations
-pub mod marks; // diameter and area by bar mark
+mod marks; // diameter and area by bar mark
 pub mod materials; // concrete, steel, aggregate, and the tables of the grades
 pub mod member; // span, frame and shear factor
 pub mod section; // width, height, cover
-pub mod steel; // the steel of bars, ties and cages in a beam
+mod steel; // the steel of bars, ties and cages in a beam
