@@ -1,0 +1,6 @@
+pub mod Marks
+pub mod Same
+pub mod Order
+pub mod Steps
+pub mod Loops
+pub mod One

@@ -1,0 +1,33 @@
+use borrow.Author.Needs.{needs}
+use mathlib.Core.Path.{refl, sym, _∙_}
+use mathlib.Core.Logic.{inl}
+use native.Mathlib.Omega.{arith}
+use Rattle.search.specs.Stock.{has}
+use Rattle.search.specs.Lightest.{FromStock}
+use Rattle.search.specs.Search.{bars-place}
+use Rattle.search.proofs.Loops.{took, passed, bars-out, settled}
+use Rattle.search.proofs.Same.{bars-place-lt, same-bars-place}
+use Rattle.search.proofs.lightest.design.Needs as need
+use Rattle.search.proofs.lightest.design.Needs.{then-has-bars, else-has-bars}
+
+pub loop-i-again : need.loop-i-again
+loop-i-again g c =
+    let got = has (c .args .stock .now) in
+    let t = c .bars-at-bottom .result in
+    let e = c .bars-at-bottom .ensures in
+    elim (c .if-has-bars .came) [
+      | then-has-bars w ↦
+          took (FromStock got) (λ d. bars-place (d .bottom)) _ (w .found-is) (c .loop-i .inv .0) (w .weigh-tops-found .ensures .step)
+          (λ d f q. w .weigh-tops-found .ensures .done d (same-bars-place (d .bottom) t (q ∙ sym e), f .1, f .2)) (c .loop-i .inv .1)
+      | else-has-bars w ↦
+          passed (FromStock got) (λ d. bars-place (d .bottom)) _ (w .found-is) (c .loop-i .inv .0)
+          (λ d f. bars-out got t _ e (search needs) (d .bottom) (f .0)) (c .loop-i .inv .1)
+    ]
+
+pub returns : need.returns
+returns g c =
+    record {
+      lightest-or-none =
+          settled (g .P·Book .answer (c .args .pile .now)) (has (c .args .stock .now)) (c .args .beam .now) _ (c .loop-i .inv .0 .sound (c .weigh-twins-found .ensures .sound (inl refl)))
+          (λ d f. c .loop-i .inv .1 d (f, omega (arith, bars-place-lt (d .bottom))));
+    }

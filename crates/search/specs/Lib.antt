@@ -1,0 +1,4 @@
+pub mod Kinds
+pub mod Stock
+pub mod Lightest
+pub mod Search

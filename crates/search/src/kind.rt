@@ -1,0 +1,6 @@
+// What a bar mark is stocked for: the bars of a face, or ties.
+#[derive(Clone, Copy, PartialEq, Eq, Debug)]
+pub enum Kind {
+    Main,
+    Tie,
+}

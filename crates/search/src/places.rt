@@ -1,0 +1,27 @@
+ghost use mathlib.Core.Path.{_≡_};
+ghost use Prim.Native.Nat.{_<_};
+ghost use Rattle.search.specs.Search.{bars-place, ties-place};
+use rebar::cage::Bars;
+use rebar::cage::Ties;
+
+// The bars of a face, by mark and then by number.
+pub(crate) fn bars_at(k: u8) -> Bars
+    requires { ⌜ k < 99 ⌝ }
+    ensures { λ r. ⌜ bars-place r ≡ k ⌝ }
+{
+    Bars {
+        mark: 3 + k / 11,
+        number: 2 + k % 11,
+    }
+}
+
+// The ties, by mark and then by spacing.
+pub(crate) fn ties_at(k: u8) -> Ties
+    requires { ⌜ k < 69 ⌝ }
+    ensures { λ r. ⌜ ties-place r ≡ k ⌝ }
+{
+    Ties {
+        mark: 3 + k / 23,
+        spacing: 50 + 25 * (k % 23) as u16,
+    }
+}

@@ -1,0 +1,4 @@
+pub mod Refusals
+pub mod Places
+pub mod Table
+pub mod Calls
