@@ -26,8 +26,8 @@ pub struct Refused {
     pub refusal: Refusal,
 }
 
-// A bill with its total: it takes no more lines.
+// A bill with its total: it takes no more lines. It tells how many bytes of the page are the bill.
 #[derive(Drop)]
 pub struct Totalled {
-    written: usize,
+    pub written: usize,
 }

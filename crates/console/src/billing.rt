@@ -27,7 +27,7 @@ pub(crate) fn write_bill<P: Book>(page: &mut [u8], sheet: &Sheet<P>) -> Result<u
         Err(refused) => return Err(torn(refused)),
     };
     match lined.total(page) {
-        Ok(totalled) => Ok(totalled.written()),
+        Ok(totalled) => Ok(totalled.written),
         Err(refused) => Err(torn(refused)),
     }
 }

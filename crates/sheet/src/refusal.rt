@@ -18,7 +18,7 @@ pub impl From<Fault> for Refusal as RefusalFromFault {
     ghost converts = { λ fault refusal. refusal ≡ Card fault };
 
     fn from(fault: Fault) -> Refusal {
-        Refusal::Card(fault)
+        Self::Card(fault)
     }
 }
 

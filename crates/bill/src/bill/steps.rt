@@ -102,28 +102,21 @@ impl Begun {
     pub fn tear(self) -> usize
         ensures bytes_written { λ r. ⌜ r ≡ self .written ⌝ }
     {
+        let bytes = self.written;
         let Begun {
-            written,
+            written: _,
             lines: _,
             steel: _,
         } = self;
-        written
+        bytes
     }
 
     // How many bytes of the page the bill has written so far.
     pub fn written(&self) -> usize
         ensures bytes_written { λ r. ⌜ r ≡ now (self .entry) .written ⌝ }
     {
-        self.written
-    }
-}
-
-impl Totalled {
-    // How many bytes of the page are the bill.
-    pub fn written(&self) -> usize
-        ensures bytes_written { λ r. ⌜ r ≡ now (self .entry) .written ⌝ }
-    {
-        self.written
+        let Begun { written, .. } = self;
+        *written
     }
 }
 
