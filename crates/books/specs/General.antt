@@ -7,7 +7,7 @@ use Rattle.books.specs.Rules.{Article, first-broken}
 use Rattle.books.specs.Articles.{general}
 
 -- the articles of the general book for a beam
-abbrev pub articles-for : Beam → Cage → List Article
+unfoldable pub articles-for : Beam → Cage → List Article
 articles-for b c = general (b .section) (b .materials) (b .member) (b .actions) c
 
 -- its meaning: the number of the first article that does not hold

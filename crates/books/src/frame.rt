@@ -102,11 +102,8 @@ fn first_broken_in_shear(beam: &Beam, ties: &Ties, depth: u64, moments: u64) -> 
 fn first_broken_in_frame(beam: &Beam, cage: &Cage) -> u8
     ensures { λ r. ⌜ r ≡ first-broken (frame (now (beam .entry) .section) (now (beam .entry) .materials) (now (beam .entry) .member) (now (beam .entry) .actions) (now (cage .entry))) ⌝ }
 {
-    let Beam {
-        section,
-        materials,
-        ..
-    } = beam;
+    let section = &beam.section;
+    let materials = &beam.materials;
     let bottom = Face::of(section, materials, &cage.ties, &cage.bottom);
     let top = Face::of(section, materials, &cage.ties, &cage.top);
     if !bottom.has_least_steel(section, materials) {

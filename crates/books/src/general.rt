@@ -1,7 +1,7 @@
 ghost use Prim.Native.Nat.{_≤_};
 ghost use mathlib.Core.Path.{_≡_};
 ghost use Rattle.books.specs.Rules.{first-broken, PassesExactly, RefusesExactly};
-ghost use Rattle.books.specs.Articles.{in-shear};
+ghost use Rattle.books.specs.Articles.{in-shear, general};
 ghost use Rattle.books.specs.General.{articles-for, general-answer};
 use crate::book::Book;
 use crate::face::Face;
@@ -19,11 +19,8 @@ fn first_broken_in_shear(beam: &Beam, ties: &Ties, depth: u64) -> u8
     requires { ⌜ depth ≤ 8800 ⌝ }
     ensures { λ r. ⌜ r ≡ first-broken (in-shear (now (beam .entry) .section) (now (beam .entry) .materials) (now (beam .entry) .member .«shear_factor») (now (beam .entry) .actions .shear) (now (ties .entry)) depth) ⌝ }
 {
-    let Beam {
-        section,
-        materials,
-        ..
-    } = beam;
+    let section = &beam.section;
+    let materials = &beam.materials;
     let factor = beam.member.shear_factor;
     let shear = beam.actions.shear as u64;
     let strengths = Strengths::at(section, materials, ties, depth);
@@ -44,14 +41,11 @@ fn first_broken_in_shear(beam: &Beam, ties: &Ties, depth: u64) -> u8
 
 // The first article that does not hold, or 0.
 fn first_broken_of(beam: &Beam, cage: &Cage) -> u8
-    ensures { λ r. ⌜ r ≡ first-broken (articles-for (now (beam .entry)) (now (cage .entry))) ⌝ }
+    ensures { λ r. ⌜ r ≡ first-broken (general (now (beam .entry) .section) (now (beam .entry) .materials) (now (beam .entry) .member) (now (beam .entry) .actions) (now (cage .entry))) ⌝ }
 {
-    let Beam {
-        section,
-        materials,
-        actions,
-        ..
-    } = beam;
+    let section = &beam.section;
+    let materials = &beam.materials;
+    let actions = &beam.actions;
     let bottom = Face::of(section, materials, &cage.ties, &cage.bottom);
     if !bottom.fits {
         return 1;

@@ -6,5 +6,3 @@ pub mod frame; // the frame layer, articles 21 to 28
 pub mod general; // the general book, articles 1 to 13
 pub mod pile; // the frame layer over the general book
 mod shear; // what a section bears in shear
-#[cfg(test)]
-mod tests; // worked figures of a reference beam

@@ -5,5 +5,3 @@ mod layout; // the fields: bit, default, allowed values
 mod map; // which fields stand on the card, and where each begins
 mod number; // numbers, the high byte first
 pub mod reader; // the card as it comes in
-#[cfg(test)]
-mod tests;

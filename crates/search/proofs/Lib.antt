@@ -1,4 +1,3 @@
-pub mod Marks
 pub mod Same
 pub mod Order
 pub mod Steps

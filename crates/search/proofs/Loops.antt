@@ -1,25 +1,25 @@
 -- One turn of each loop of the search.
 use Prim.Native.Nat.{ℕ, _+_, _≤_, _<_}
-use mathlib.Core.Path.{_≡_, subst, sym, ap, _∙_}
+use mathlib.Core.Path.{_≡_, subst, sym, _∙_}
 use mathlib.Core.Bool.{Bool}
 use mathlib.Core.List.{List}
 use mathlib.Core.Logic.{_≢_, inl, inr}
 use native.Mathlib.Decide.{decLt}
 use native.Mathlib.Omega.{arith}
-use lib.ListN.{length, getD, set}
+use lib.ListN.{length, set}
 use lib.Seq.{getD-set-same, getD-set-other}
 use Rattle.rebar.specs.declared.beam.Beam.{Beam}
 use Rattle.rebar.specs.declared.cage.Bars.{Bars}
 use Rattle.rebar.specs.declared.cage.Ties.{Ties}
 use Rattle.rebar.specs.declared.cage.Cage.{Cage}
-use Rattle.rebar.specs.Steel.{bars-steel, ties-steel}
-use Rattle.search.specs.declared.kind.Kind.{Kind}
+use Rattle.rebar.specs.Steel.{ties-steel}
+use Rattle.stock.specs.declared.kind.Kind.{Kind}
 use Rattle.search.specs.declared.decision.Decision.{Decision}
 use Rattle.search.specs.declared.decision.Decision.the-variants.{Chosen, Impossible}
-use Rattle.search.specs.Lightest.{FromStock, Better, Lightest}
-use Rattle.search.specs.Search.{MainIn, TieIn, Lighter, Covers, Sound, Step, Outweighs, Listed, Done, OfPair, OfBottom, bars-place, ties-place}
+use Rattle.search.specs.Lightest.{FromStock, Lightest}
+use Rattle.search.specs.Search.{MainIn, TieIn, Covers, Sound, Step, Listed, Done, OfPair, bars-place, ties-place}
 use Rattle.search.proofs.Same.{same-cage, same-bars-place, same-ties-place}
-use Rattle.search.proofs.Steps.{step-refl, step-trans, outweighed}
+use Rattle.search.proofs.Steps.{step-refl, step-trans}
 
 -- a loop over the cages of which P holds, by their place
 module _ {answer : Beam → Cage → ℕ} {got : Kind → ℕ → Bool} {beam : Beam} (P : Cage → Type 0) (place : Cage → ℕ) where
@@ -75,15 +75,6 @@ listed-took got beam each old new k w t in′ e is small less here done u lt =
       | no l ↦ subst (λ x. Listed got beam (set each k w) new x) (sym (same-ties-place u t (omega arith)))
           (rw (e, getD-set-same) is, omega arith, λ f. omega (arith, here f))
     ]
-
--- a pair of faces that has too much steel with the lightest ties
-pub pair-passed : (answer : Beam → Cage → ℕ) (got : Kind → ℕ → Bool) (beam : Beam) (bottom top : Bars) (each : List ℕ) (least floor : ℕ) (best : Decision)
-    → ((t : Ties) → Listed got beam each least t)
-    → floor ≡ bars-steel beam bottom + bars-steel beam top + least → Outweighs floor best
-    → Done answer beam (OfPair got bottom top) best
-pair-passed answer got beam bottom top each least floor best listed e over d p =
-    outweighed answer beam best floor d over
-    (omega (arith, listed (d .ties) .2 (p .2), ap (bars-steel beam) (p .0), ap (bars-steel beam) (p .1)))
 
 -- all places done
 pub settled : (answer : Beam → Cage → ℕ) (got : Kind → ℕ → Bool) (beam : Beam) (r : Decision) → Sound answer got beam r

@@ -1,5 +1,5 @@
 -- Cages of the same numbers are the same: the facts in their ghost fields have one proof at most.
-use Prim.Native.Nat.{ℕ, _/_, _%_, _≤_, _<_}
+use Prim.Native.Nat.{_/_, _%_, _≤_, _<_}
 use mathlib.Core.Path.{_≡_}
 use mathlib.Core.HLevel.{isProp→PathP, ×-prop, ×₃-prop}
 use native.Mathlib.Bridge.{le-prop}

@@ -1,21 +1,21 @@
 -- How one step of the search follows another.
-use Prim.Native.Nat.{ℕ, _≤_, max}
+use Prim.Native.Nat.{ℕ, max}
 use mathlib.Core.Path.{_≡_, subst, sym}
 use mathlib.Core.Bool.{Bool}
 use mathlib.Core.List.{_∷_}
-use mathlib.Core.Logic.{inl, inr}
+use mathlib.Core.Logic.{inr}
 use native.Mathlib.Decide.{decLe}
 use native.Mathlib.Omega.{arith}
 use Rattle.rebar.specs.declared.beam.Beam.{Beam}
 use Rattle.rebar.specs.declared.cage.Cage.{Cage}
 use Rattle.rebar.specs.Steel.{steel}
 use Rattle.books.specs.Answers.{Passes}
-use Rattle.search.specs.declared.kind.Kind.{Kind}
+use Rattle.stock.specs.declared.kind.Kind.{Kind}
 use Rattle.search.specs.declared.decision.Choice.{Choice}
 use Rattle.search.specs.declared.decision.Decision.{Decision}
 use Rattle.search.specs.declared.decision.Decision.the-variants.{Chosen, Impossible}
 use Rattle.search.specs.Lightest.{FromStock, numbers}
-use Rattle.search.specs.Search.{Lighter, Covers, Step, Outweighs}
+use Rattle.search.specs.Search.{Lighter, Step}
 use Rattle.search.proofs.Order.{before-trans, before-itself}
 
 module _ {answer : Beam → Cage → ℕ} {got : Kind → ℕ → Bool} {beam : Beam} where
@@ -51,9 +51,3 @@ refused answer got beam best n m cage is not e f =
       sound = λ s. elim (decLe n (answer beam cage)) [ yes h ↦ inr (cage, (f, omega arith)) | no h ↦ let k : m ≡ n = omega arith in rw k s ];
       keeps = λ d s. (s .0, omega arith);
     }
-
--- no cage of this steel or more is lighter than the chosen one
-pub outweighed : (answer : Beam → Cage → ℕ) (beam : Beam) (best : Decision) (floor : ℕ) (d : Cage)
-    → Outweighs floor best → floor ≤ steel beam d → Covers answer beam best d
-outweighed answer beam (Chosen x) floor d h k = λ _ less. elim less [ inl l ↦ omega arith | inr l ↦ omega (arith, l .0) ]
-outweighed answer beam (Impossible n) floor d h k = absurd h

@@ -1,4 +1,2 @@
-pub mod Kinds
-pub mod Stock
 pub mod Lightest
 pub mod Search

@@ -9,8 +9,8 @@ use Rattle.rebar.specs.declared.beam.Beam.{Beam}
 use Rattle.rebar.specs.declared.cage.Cage.{Cage}
 use Rattle.rebar.specs.Steel.{steel}
 use Rattle.books.specs.Answers.{Passes}
-use Rattle.search.specs.declared.kind.Kind.{Kind}
-use Rattle.search.specs.declared.kind.Kind.the-variants.{Main, Tie}
+use Rattle.stock.specs.declared.kind.Kind.{Kind}
+use Rattle.stock.specs.declared.kind.Kind.the-variants.{Main, Tie}
 use Rattle.search.specs.declared.decision.Decision.{Decision}
 use Rattle.search.specs.declared.decision.Decision.the-variants.{Chosen, Impossible}
 

@@ -12,8 +12,8 @@ use Rattle.rebar.specs.declared.cage.Ties.{Ties}
 use Rattle.rebar.specs.declared.cage.Cage.{Cage}
 use Rattle.rebar.specs.Steel.{steel, ties-steel}
 use Rattle.books.specs.Answers.{Passes}
-use Rattle.search.specs.declared.kind.Kind.{Kind}
-use Rattle.search.specs.declared.kind.Kind.the-variants.{Main, Tie}
+use Rattle.stock.specs.declared.kind.Kind.{Kind}
+use Rattle.stock.specs.declared.kind.Kind.the-variants.{Main, Tie}
 use Rattle.search.specs.declared.decision.Choice.{Choice}
 use Rattle.search.specs.declared.decision.Decision.{Decision}
 use Rattle.search.specs.declared.decision.Decision.the-variants.{Chosen, Impossible}

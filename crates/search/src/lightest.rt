@@ -1,14 +1,13 @@
-ghost use mathlib.Core.Path.{_≡_};
-ghost use Prim.Native.Nat.{_≤_};
 ghost use Rattle.rebar.specs.declared.cage.Ties.{Ties};
-ghost use Rattle.search.specs.Stock.{has};
+ghost use Rattle.stock.specs.Stock.{has};
 ghost use Rattle.search.specs.Lightest.{Lightest, OneDecision};
 ghost use Rattle.search.specs.Search.{MainIn, Step, Listed, Done, OfPair, OfBottom};
 use crate::decision::Choice;
 use crate::decision::Decision;
+use crate::places::BARS;
+use crate::places::TIES;
 use crate::places::bars_at;
 use crate::places::ties_at;
-use crate::stock::Stock;
 use crate::tie_steel::TieSteel;
 use crate::weighing::is_outweighed;
 use crate::weighing::weigh;
@@ -16,6 +15,7 @@ use books::book::Book;
 use rebar::beam::Beam;
 use rebar::cage::Bars;
 use rebar::cage::Cage;
+use stock::stock::Stock;
 
 // The decision with the cages of one bottom and one top; with no look at them where the lightest ties from stock
 // would make too heavy a cage.
@@ -31,7 +31,6 @@ fn weigh_ties<P: Book>(
     requires bottoms { ⌜ MainIn (has (now stock)) bottom ⌝ }
     requires tops { ⌜ MainIn (has (now stock)) top ⌝ }
     requires listed { ⌜ ((t : Ties) → Listed (has (now stock)) (now beam) (now table .each) (now table .least) t) ⌝ }
-    requires bounded { ⌜ now table .least ≤ 163229352 ⌝ }
     ensures step { λ r. ⌜ Step (P·Book .answer (now (pile .entry))) (has (now (stock .entry))) (now (beam .entry)) best r ⌝ }
     ensures done { λ r. ⌜ Done (P·Book .answer (now (pile .entry))) (now (beam .entry)) (OfPair (has (now (stock .entry))) bottom top) r ⌝ }
 {
@@ -40,11 +39,11 @@ fn weigh_ties<P: Book>(
         return best;
     }
     let mut found = best;
-    for k in 0..69 {
+    for k in 0..TIES {
         let ties = ties_at(k);
         if stock.has_ties(&ties) {
             let cage = Cage { bottom, top, ties };
-            let steel = main + table.each[k as usize];
+            let steel = main + table.each[k];
             found = weigh(pile, beam, Choice { cage, steel }, found);
         }
     }
@@ -62,12 +61,11 @@ fn weigh_tops<P: Book>(
 ) -> Decision
     requires bottoms { ⌜ MainIn (has (now stock)) bottom ⌝ }
     requires listed { ⌜ ((t : Ties) → Listed (has (now stock)) (now beam) (now table .each) (now table .least) t) ⌝ }
-    requires bounded { ⌜ now table .least ≤ 163229352 ⌝ }
     ensures step { λ r. ⌜ Step (P·Book .answer (now (pile .entry))) (has (now (stock .entry))) (now (beam .entry)) best r ⌝ }
     ensures done { λ r. ⌜ Done (P·Book .answer (now (pile .entry))) (now (beam .entry)) (OfBottom (has (now (stock .entry))) bottom) r ⌝ }
 {
     let mut found = best;
-    for j in 0..99 {
+    for j in 0..BARS {
         let top = bars_at(j);
         if stock.has_bars(&top) {
             found = weigh_ties(pile, beam, stock, table, bottom, top, found);
@@ -86,11 +84,10 @@ fn weigh_twins<P: Book>(
     best: Decision,
 ) -> Decision
     requires listed { ⌜ ((t : Ties) → Listed (has (now stock)) (now beam) (now table .each) (now table .least) t) ⌝ }
-    requires bounded { ⌜ now table .least ≤ 163229352 ⌝ }
     ensures { λ r. ⌜ Step (P·Book .answer (now (pile .entry))) (has (now (stock .entry))) (now (beam .entry)) best r ⌝ }
 {
     let mut found = best;
-    for i in 0..99 {
+    for i in 0..BARS {
         let bars = bars_at(i);
         if stock.has_bars(&bars) {
             found = weigh_ties(pile, beam, stock, table, bars, bars, found);
@@ -106,7 +103,7 @@ pub fn design<P: Book>(pile: &P, beam: &Beam, stock: &Stock) -> Decision
 {
     let table = TieSteel::of(beam, stock);
     let mut found = weigh_twins(pile, beam, stock, &table, Decision::Impossible(0));
-    for i in 0..99 {
+    for i in 0..BARS {
         let bottom = bars_at(i);
         if stock.has_bars(&bottom) {
             found = weigh_tops(pile, beam, stock, &table, bottom, found);

@@ -1,10 +1,9 @@
 ghost use mathlib.Core.Path.{_≡_};
 ghost use mathlib.Core.Bool.{Bool};
 ghost use Prim.Native.Nat.{ℕ};
-ghost use lib.Dec.{T};
 ghost use Rattle.std.specs.Orderings.{When};
 ghost use Rattle.rebar.specs.Steel.{steel};
-ghost use Rattle.search.specs.declared.kind.Kind.{Kind};
+ghost use Rattle.stock.specs.declared.kind.Kind.{Kind};
 ghost use Rattle.search.specs.Lightest.{FromStock, Before, numbers};
 ghost use Rattle.search.specs.Search.{Lighter, Covers, Step, Outweighs};
 use crate::decision::Choice;
@@ -69,7 +68,7 @@ pub(crate) fn weigh<P: Book>(pile: &P, beam: &Beam, choice: Choice, best: Decisi
 
 // Whether no cage of this steel or more can take the place of the decision.
 pub(crate) fn is_outweighed(floor: u32, best: &Decision) -> bool
-    ensures { λ r. ⌜ (T r → Outweighs floor (now (best .entry))) ⌝ }
+    ensures { λ r. ⌜ When r (Outweighs floor (now (best .entry))) (Outweighs floor (now (best .entry)) → ⊥) ⌝ }
 {
     match best {
         Decision::Chosen(chosen) => chosen.steel < floor,

@@ -13,10 +13,10 @@ use Rattle.rebar.specs.declared.beam.Beam.{Beam}
 use Rattle.rebar.specs.declared.cage.Cage.{Cage}
 use Rattle.card.specs.declared.fault.Fault.{Fault}
 use Rattle.card.specs.Card.{card-fault, CardAs}
-use Rattle.search.specs.declared.kind.Kind.{Kind}
+use Rattle.stock.specs.declared.kind.Kind.{Kind}
 use Rattle.search.specs.declared.decision.Decision.{Decision}
-use Rattle.search.specs.Kinds.{kind-number, known}
-use Rattle.search.specs.Stock.{has, offers-cages}
+use Rattle.stock.specs.Kinds.{kind-number, known}
+use Rattle.stock.specs.Stock.{has, offers-cages}
 use Rattle.search.specs.Lightest.{Lightest}
 use Rattle.sheet.specs.declared.place.Place.the-variants.{Empty, Open}
 use Rattle.sheet.specs.declared.reading.Reading.{Reading}

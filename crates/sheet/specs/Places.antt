@@ -6,8 +6,8 @@ use Rattle.std.specs.declared.option.Option.{Option}
 use Rattle.std.specs.declared.option.Option.the-variants.{Some, None}
 use Rattle.rebar.specs.declared.beam.Beam.{Beam}
 use Rattle.rebar.specs.declared.cage.Cage.{Cage}
-use Rattle.search.specs.declared.kind.Kind.{Kind}
-use Rattle.search.specs.declared.kind.Kind.the-variants.{Main, Tie}
+use Rattle.stock.specs.declared.kind.Kind.{Kind}
+use Rattle.stock.specs.declared.kind.Kind.the-variants.{Main, Tie}
 use Rattle.search.specs.declared.decision.Decision.{Decision}
 use Rattle.search.specs.declared.decision.Decision.the-variants as decision
 use Rattle.sheet.specs.declared.place.Place.{Place}

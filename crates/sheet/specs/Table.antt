@@ -4,9 +4,9 @@ use mathlib.Core.Bool.{Bool, Bool·beq, cond}
 use mathlib.Core.List.{map}
 use lib.ListN.{getD, set}
 use Rattle.rebar.specs.declared.beam.Beam.{Beam}
-use Rattle.search.specs.declared.kind.Kind.{Kind}
+use Rattle.stock.specs.declared.kind.Kind.{Kind}
 use Rattle.search.specs.declared.decision.Decision.{Decision}
-use Rattle.search.specs.Stock.{has, with-mark}
+use Rattle.stock.specs.Stock.{has, with-mark}
 use Rattle.sheet.specs.declared.place.Place.{Place}
 use Rattle.sheet.specs.declared.place.Place.the-variants.{Empty}
 use Rattle.sheet.specs.declared.table.Table.{Table}

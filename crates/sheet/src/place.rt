@@ -5,8 +5,8 @@ use rebar::beam::Beam;
 use rebar::cage::Cage;
 use search::decision::Choice;
 use search::decision::Decision;
-use search::kind::Kind;
-use search::stock_mark::StockMark;
+use stock::kind::Kind;
+use stock::stock_mark::StockMark;
 
 // What a place holds: a beam is open until it is decided, and open again when its decision may no longer be right.
 #[derive(Clone, Copy)]

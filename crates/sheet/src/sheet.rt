@@ -8,8 +8,8 @@ use crate::table::Table;
 use books::book::Book;
 use card::reader::read_card;
 use search::lightest::design;
-use search::stock::Stock;
-use search::stock_mark::StockMark;
+use stock::stock::Stock;
+use stock::stock_mark::StockMark;
 
 // A sheet on a pile of article books.
 #[derive(Drop)]

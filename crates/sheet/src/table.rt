@@ -6,8 +6,8 @@ ghost use Rattle.sheet.specs.Table.{place-at, with-place, restocked, settled};
 use crate::place::Place;
 use rebar::beam::Beam;
 use search::decision::Decision;
-use search::stock::Stock;
-use search::stock_mark::StockMark;
+use stock::stock::Stock;
+use stock::stock_mark::StockMark;
 
 // The places of a sheet, the marks in stock, and how many designs were made.
 #[derive(Drop)]

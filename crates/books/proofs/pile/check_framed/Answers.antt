@@ -12,12 +12,12 @@ use Rattle.books.proofs.Reflect.{numbered, joined, passes, refuses}
 use Rattle.books.proofs.pile.check_framed.Needs as need
 
 both-numbered : (b : Beam) (c : Cage) → numbered (framed-articles-for b c) ≡ true
-unfolding framed-articles-for
+unfolding framed-articles-for articles-for
 both-numbered b c =
     elim (b .member .«in_frame») as (λ t. numbered (articles-for b c ++ cond t (frame (b .section) (b .materials) (b .member) (b .actions) c) []) ≡ true) [ true ↦ refl | false ↦ refl ]
 
 one-list : (b : Beam) (c : Cage) → over (general-answer b c) (frame-answer b c) ≡ first-broken (framed-articles-for b c)
-unfolding framed-articles-for general-answer frame-answer
+unfolding framed-articles-for articles-for general-answer frame-answer
 one-list b c = sym (joined (articles-for b c) (frame-articles-for b c) refl)
 
 pub returns : need.returns

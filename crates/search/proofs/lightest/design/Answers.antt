@@ -2,7 +2,7 @@ use borrow.Author.Needs.{needs}
 use mathlib.Core.Path.{refl, sym, _∙_}
 use mathlib.Core.Logic.{inl}
 use native.Mathlib.Omega.{arith}
-use Rattle.search.specs.Stock.{has}
+use Rattle.stock.specs.Stock.{has}
 use Rattle.search.specs.Lightest.{FromStock}
 use Rattle.search.specs.Search.{bars-place}
 use Rattle.search.proofs.Loops.{took, passed, bars-out, settled}

@@ -1,5 +1,5 @@
 use Prim.Native.Nat.{_<_}
-use Rattle.search.specs.Stock.{has}
+use Rattle.stock.specs.Stock.{has}
 use Rattle.search.specs.Lightest.{FromStock}
 use Rattle.search.specs.Search.{Step, Done, bars-place}
 use Rattle.search.proofs.lightest.design.Given as given

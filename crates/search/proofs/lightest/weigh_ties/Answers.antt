@@ -1,6 +1,6 @@
 use borrow.Author.Needs.{needs}
 use native.Mathlib.Omega.{arith}
-use Rattle.search.specs.Stock.{has}
+use Rattle.stock.specs.Stock.{has}
 use Rattle.search.specs.Search.{OfPair, ties-place}
 use Rattle.search.proofs.Loops.{took, passed, ties-here, ties-out}
 use Rattle.search.proofs.Same.{ties-place-lt}

@@ -1,7 +1,7 @@
 use borrow.Author.Needs.{needs}
 use mathlib.Core.Path.{sym, _∙_}
 use native.Mathlib.Omega.{arith}
-use Rattle.search.specs.Stock.{has}
+use Rattle.stock.specs.Stock.{has}
 use Rattle.search.specs.Search.{OfBottom, bars-place}
 use Rattle.search.proofs.Loops.{took, passed, bars-out}
 use Rattle.search.proofs.Same.{bars-place-lt, same-bars-place}

@@ -1,5 +1,5 @@
 use Prim.Native.Nat.{_<_}
-use Rattle.search.specs.Stock.{has}
+use Rattle.stock.specs.Stock.{has}
 use Rattle.search.specs.Search.{Step, Done, OfBottom, bars-place}
 use Rattle.search.proofs.lightest.weigh_tops.Given as given
 

@@ -1,4 +1,4 @@
-use Rattle.search.specs.Stock.{has}
+use Rattle.stock.specs.Stock.{has}
 use Rattle.search.specs.Search.{Step}
 use Rattle.search.proofs.lightest.weigh_twins.Given as given
 

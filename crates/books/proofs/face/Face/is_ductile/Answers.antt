@@ -1,7 +1,7 @@
-use native.Mathlib.Omega.{arith}
-use Rattle.books.proofs.Products.{lit, upto, times, fits}
+use Rattle.books.proofs.Products.{lit, upto, times, fits, b-of, f-of, d-of}
 use Rattle.books.proofs.face.Face.is_ductile.Needs as need
 
 pub mul-result-5 : need.mul-result-5
 mul-result-5 c =
-    fits (times (times (times (times (lit 51) (upto 85 (omega arith))) (upto 420 (omega arith))) (upto 800 (omega arith))) (upto 8800 (omega arith))) tt
+    fits (times (times (times (times (lit 51) (upto 85 (c .block-factor .ensures .bounded))) (f-of (c .args .materials .now))) (b-of (c .args .section .now)))
+    (d-of (c .args .self .now))) tt

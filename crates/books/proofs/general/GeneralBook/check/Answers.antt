@@ -4,7 +4,7 @@ use Rattle.books.proofs.Reflect.{passes, refuses}
 use Rattle.books.proofs.general.GeneralBook.check.Needs as need
 
 pub returns : need.returns
-unfolding general-answer
+unfolding general-answer articles-for
 returns c =
     record {
       answers-its-meaning = c .first-broken-of .ensures;

@@ -1,7 +1,7 @@
 use borrow.Author.Needs.{needs}
 use native.Mathlib.Omega.{arith}
 use lib.ListN.{length-set}
-use Rattle.search.specs.Stock.{has}
+use Rattle.stock.specs.Stock.{has}
 use Rattle.search.proofs.Loops.{listed-took}
 use Rattle.search.proofs.Same.{ties-place-lt}
 use Rattle.search.proofs.tie_steel.TieSteel.of.Needs as need
@@ -28,4 +28,4 @@ loop-k-again c =
     ]
 
 pub returns : need.returns
-returns c = record { listed = λ t. c .loop-k .inv .2 t (omega (arith, ties-place-lt t)); bounded = c .loop-k .inv .1 }
+returns c = λ t. c .loop-k .inv .2 t (omega (arith, ties-place-lt t))

@@ -2,7 +2,7 @@ use Prim.Native.Nat.{_≤_, _<_}
 use mathlib.Core.Path.{_≡_}
 use lib.ListN.{length}
 use Rattle.rebar.specs.declared.cage.Ties.{Ties}
-use Rattle.search.specs.Stock.{has}
+use Rattle.stock.specs.Stock.{has}
 use Rattle.search.specs.Search.{Listed, ties-place}
 use Rattle.search.proofs.tie_steel.TieSteel.of.Given as given
 

@@ -1,0 +1,9 @@
+use mathlib.Core.Path.{refl}
+use native.Mathlib.Omega.{arith}
+use Rattle.stock.proofs.Marks.{in-row, known-tie}
+use Rattle.stock.proofs.stock.Stock.has_ties.Needs as need
+
+pub returns : need.returns
+returns c =
+    let mark = c .args .ties .now .mark in
+    record { whether-the-mark-is-in = in-row (c .args .self .now) mark refl (known-tie mark (omega arith) (omega arith)) }
