@@ -6,7 +6,7 @@ use Rattle.rebar.specs.Grades.{block-factor-of, least-ratio-of}
 use Rattle.rebar.specs.declared.section.Section.{Section}
 use Rattle.rebar.specs.declared.materials.Materials.{Materials}
 use Rattle.rebar.specs.declared.member.Member.{Member}
-use Rattle.rebar.specs.declared.actions.Actions.{Actions}
+use Rattle.loads.specs.declared.actions.Actions.{Actions}
 use Rattle.rebar.specs.declared.cage.Bars.{Bars}
 use Rattle.rebar.specs.declared.cage.Ties.{Ties}
 use Rattle.rebar.specs.declared.cage.Cage.{Cage}

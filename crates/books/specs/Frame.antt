@@ -7,7 +7,7 @@ use Rattle.rebar.specs.Marks.{face-area}
 use Rattle.rebar.specs.declared.section.Section.{Section}
 use Rattle.rebar.specs.declared.materials.Materials.{Materials}
 use Rattle.rebar.specs.declared.member.Member.{Member}
-use Rattle.rebar.specs.declared.actions.Actions.{Actions}
+use Rattle.loads.specs.declared.actions.Actions.{Actions}
 use Rattle.rebar.specs.declared.beam.Beam.{Beam}
 use Rattle.rebar.specs.declared.cage.Ties.{Ties}
 use Rattle.rebar.specs.declared.cage.Cage.{Cage}

@@ -7,8 +7,8 @@ use lib.IntN.{pos}
 use Rattle.std.specs.declared.option.Option.the-variants.{None}
 use Rattle.std.specs.declared.result.Result.{Result}
 use Rattle.std.specs.declared.result.Result.the-variants.{Ok, Err}
-use Rattle.rebar.specs.declared.loads.Force.{Force}
-use Rattle.rebar.specs.declared.loads.Case.{Case}
+use Rattle.loads.specs.declared.loads.Force.{Force}
+use Rattle.loads.specs.declared.loads.Case.{Case}
 use Rattle.card.specs.declared.fault.Fault.{Fault}
 use Rattle.card.specs.declared.layout.LoadCase.{LoadCase}
 use Rattle.card.specs.Faults.{Answers}

@@ -11,7 +11,8 @@ use Rattle.card.specs.declared.layout.Field.{Field}
 use Rattle.card.specs.Faults.{Answers}
 use Rattle.card.specs.Layout.{layout}
 use Rattle.card.specs.Map.{stands, offset, required}
-use Rattle.card.specs.Numbers.{number-at, number-fault, value, field-fault}
+use Rattle.card.specs.Numbers.{value, field-fault}
+use Rattle.card.specs.Reads.{NumberAs}
 use Rattle.card.proofs.Rows.{default-allowed}
 
 module _ (f : Field) (least map : ℕ) (rest : List ℕ) where
@@ -23,7 +24,7 @@ module _ (f : Field) (least map : ℕ) (rest : List ℕ) where
       rw s (refl, (e, a))
 
   pub standing-field : (at : ℕ) (r : Result ℕ Fault) → stands map (layout f .bit) ≡ true → at ≡ offset map (layout f .bit)
-      → Answers (number-fault f least rest at) (λ v. (v ≡ number-at f rest at) × (layout f .allowed least v ≡ true)) r
+      → NumberAs f least rest at r
       → Answers (field-fault f least map rest) (λ v. (v ≡ value f map rest) × (layout f .allowed least v ≡ true)) r
   unfolding field-fault value
   standing-field at (Ok v) s a h = rw (s, ← a) h

@@ -19,7 +19,7 @@ use Rattle.card.specs.Card.{shape-fault, card-fault, map-of, rest-of, CardAs}
 use Rattle.card.specs.Faults.{first, range-fault}
 use Rattle.card.specs.Layout.{layout, load-bit, least-cover}
 use Rattle.card.specs.Map.{stands, offset}
-use Rattle.card.specs.Numbers.{field-fault, number-fault, load-fault, number-at}
+use Rattle.card.specs.Numbers.{field-fault, number-fault, load-fault}
 use Rattle.card.specs.Order.{Number, AllFine, FirstBad, Judges, numbers, of-field, of-case, load-at, force-at, forces-at}
 use Rattle.card.specs.Parts.{case-fault, forces-fault, force-fault, loads-fault, section-fault, materials-fault, member-fault, values-fault}
 

@@ -2,7 +2,7 @@
 use Prim.Native.Nat.{ℕ, zero, suc, _+_, _-_, _≤_, _<_}
 use mathlib.Core.Path.{_≡_, refl, ap, _∙_}
 use native.Mathlib.Nat.{add-zero}
-use mathlib.Core.Bool.{Bool, true, false, cond}
+use mathlib.Core.Bool.{true, false, cond}
 use native.Mathlib.Numerals.{add-one}
 use native.Mathlib.Omega.{arith}
 use Rattle.card.specs.Layout.{size}
@@ -31,9 +31,21 @@ offset-far map k (suc n) =
     omega arith
 
 -- a field that stands lies before any later bit's place
-pub offset-within : (map k n : ℕ) → k < n → stands map k ≡ true → offset map k + size k ≤ offset map n
+offset-within : (map k n : ℕ) → k < n → stands map k ≡ true → offset map k + size k ≤ offset map n
 offset-within map k n h s =
     let e : offset map n ≡ offset map (k + 1 + (n - (k + 1))) = ap (offset map) (omega arith) in
     let f = offset-standing map k s in
     let g = offset-far map (k + 1) (n - (k + 1)) in
     omega arith
+
+module _ (map bit k at : ℕ) (is : bit ≡ k) (a : at ≡ offset map bit) where
+  -- where the field of bit k begins
+  pub begins : at ≡ offset map k
+  begins = a ∙ ap (offset map) is
+
+  -- the whole of a field that stands lies on the card
+  pub lies-within : (bytes whole : ℕ) → k < 13 → stands map k ≡ true → size k ≡ bytes → whole ≡ offset map 13 → at + bytes ≤ whole
+  lies-within bytes whole h s z l =
+      let b = begins in
+      let w = offset-within map k 13 h s in
+      omega arith

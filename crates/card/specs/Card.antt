@@ -16,10 +16,11 @@ use Rattle.card.specs.Layout.{least-cover}
 use Rattle.card.specs.Map.{unknown, required, offset}
 use Rattle.card.specs.Parts.{values-fault, SectionIs, MaterialsIs, MemberIs, LoadsIs}
 
--- the map is the first two bytes, the high byte first; the rest follows
+-- the map is the first two bytes, the high byte first
 abbrev pub map-of : List ℕ → ℕ
 map-of card = getD card 0 0 * 256 + getD card 1 0
 
+-- the bytes after the map
 abbrev pub rest-of : List ℕ → List ℕ
 rest-of card = drop 2 card
 
@@ -36,6 +37,7 @@ map-fault map bytes =
 abbrev pub Shaped : ℕ → ℕ → Type 0
 Shaped map bytes = (required map ≡ true) × (bytes ≡ 2 + offset map 13)
 
+-- the fault of a card's map or length
 abbrev pub shape-fault : List ℕ → Option Fault
 shape-fault card = cond (ltb (length card) 2) (Some (fault BytesMissing (length card))) (map-fault (map-of card) (length card))
 
@@ -54,6 +56,7 @@ pub record BeamIs (map : ℕ) (rest : List ℕ) (b : Beam) : Type 0 where
   pub member : MemberIs map rest (b .member)
   pub loads : LoadsIs map rest (b .loads)
 
+-- the answer to a card where covers below `least` are refused
 abbrev pub CardByCover : ℕ → List ℕ → Result Beam Fault → Type 0
 CardByCover least card = Answers (fault-by-cover least card) (BeamIs (map-of card) (rest-of card))
 

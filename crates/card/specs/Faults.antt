@@ -18,6 +18,7 @@ fault-number RequiredBitAbsent = 6
 fault-number BytesOver = 7
 fault-number OutOfRange = 8
 
+-- a fault of a kind at a byte of the card
 abbrev pub fault : FaultKind → ℕ → Fault
 fault kind place = record { kind = kind; place = place }
 

@@ -30,6 +30,7 @@ signed-at rest at =
 abbrev pub number-at : Field → List ℕ → ℕ → ℕ
 number-at f rest at = unsigned-at rest at (layout f .bytes)
 
+-- the fault of a field's number, by the least cover
 unfoldable pub number-fault : Field → ℕ → List ℕ → ℕ → Option Fault
 number-fault f least rest at = range-fault (layout f .allowed least (number-at f rest at)) at
 
@@ -37,6 +38,7 @@ number-fault f least rest at = range-fault (layout f .allowed least (number-at f
 unfoldable pub value : Field → ℕ → List ℕ → ℕ
 value f map rest = cond (stands map (layout f .bit)) (number-at f rest (offset map (layout f .bit))) (layout f .default)
 
+-- an absent field has no fault
 unfoldable pub field-fault : Field → ℕ → ℕ → List ℕ → Option Fault
 field-fault f least map rest = cond (stands map (layout f .bit)) (number-fault f least rest (offset map (layout f .bit))) None
 
@@ -44,5 +46,6 @@ field-fault f least map rest = cond (stands map (layout f .bit)) (number-fault f
 abbrev pub moderate : ℤ → Bool
 moderate z = leZ (negsuc 99999) z && leZ z (pos 100000)
 
+-- the fault of a moment or a shear
 unfoldable pub load-fault : List ℕ → ℕ → Option Fault
 load-fault rest at = range-fault (moderate (signed-at rest at)) at

@@ -36,12 +36,15 @@ of-field f least map rest =
     } ∷ [])
     []
 
+-- a moment or a shear that begins at a place of the rest
 abbrev pub load-at : List ℕ → ℕ → Number
 load-at rest at = record { place = 2 + at; fine = moderate (signed-at rest at) }
 
+-- a moment and a shear
 abbrev pub force-at : List ℕ → ℕ → List Number
 force-at rest at = load-at rest at ∷ load-at rest (at + 4) ∷ []
 
+-- those of left face, midspan and right face
 abbrev pub forces-at : List ℕ → ℕ → List Number
 forces-at rest at = force-at rest at ++ (force-at rest (at + 8) ++ force-at rest (at + 16))
 
@@ -57,6 +60,7 @@ numbers least map rest =
     ++ ((of-field Frame least map rest ++ (of-field Span least map rest ++ of-field ShearFactor least map rest))
     ++ (of-case Dead map rest ++ (of-case Live map rest ++ (of-case Wind map rest ++ of-case Earthquake map rest)))))
 
+-- every number is in range
 abbrev pub AllFine : List Number → Type 0
 AllFine ns = All (λ n. n .fine ≡ true) ns
 

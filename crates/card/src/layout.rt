@@ -55,7 +55,7 @@ impl Field {
         bytes_of(self.bit())
     }
 
-    // What it means that the field is absent. Those in the last line are required.
+    // What it means that the field is absent. The fields of the last line are required, and never absent.
     pub(crate) fn default(self) -> u16
         ensures { λ r. ⌜ r ≡ layout self .default ⌝ }
     {
@@ -69,7 +69,7 @@ impl Field {
         }
     }
 
-    // Whether the field may hold a number, on a sheet with this least cover.
+    // Whether the field may hold a number, where covers below the least are refused.
     pub(crate) fn allows(self, value: u16, least_cover: u16) -> bool
         ensures { λ r. ⌜ r ≡ layout self .allowed «least_cover» value ⌝ }
     {

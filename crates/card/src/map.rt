@@ -13,6 +13,7 @@ pub(crate) struct Map {
 }
 
 impl Map {
+    // Whether a bit is set; bit 0 is the lowest.
     fn stands(self, bit: usize) -> bool
         requires { ⌜ bit < 13 ⌝ }
         ensures { λ r. ⌜ r ≡ stands (self .bits) bit ⌝ }
@@ -20,12 +21,14 @@ impl Map {
         (self.bits >> bit) % 2 == 1
     }
 
+    // Whether a field stands on the card.
     pub(crate) fn has(self, field: Field) -> bool
         ensures { λ r. ⌜ r ≡ stands (self .bits) (layout field .bit) ⌝ }
     {
         self.stands(field.bit())
     }
 
+    // Whether a load case stands on the card.
     pub(crate) fn has_case(self, case: LoadCase) -> bool
         ensures { λ r. ⌜ r ≡ stands (self .bits) (load-bit case) ⌝ }
     {

@@ -1,13 +1,11 @@
 ghost use mathlib.Core.Path.{_≡_};
-ghost use mathlib.Core.Bool.{true};
 ghost use mathlib.Core.Logic.{_⊎_};
 ghost use Prim.Native.Nat.{_≤_, _<_, _+_, _^_};
-ghost use lib.IntN.{pos, negsuc};
 ghost use lib.ListN.{length};
-ghost use lib.Signed.{_≤ℤ_};
-ghost use Rattle.card.specs.Faults.{fault, Answers};
+ghost use Rattle.card.specs.Faults.{fault};
 ghost use Rattle.card.specs.Layout.{layout};
-ghost use Rattle.card.specs.Numbers.{unsigned-at, signed-at, number-at, number-fault, moderate, load-fault};
+ghost use Rattle.card.specs.Numbers.{unsigned-at, signed-at, moderate};
+ghost use Rattle.card.specs.Reads.{NumberAs, LoadAs};
 ghost use Rattle.card.specs.declared.fault.FaultKind.the-variants.{OutOfRange};
 use crate::fault::Fault;
 use crate::fault::FaultKind;
@@ -45,10 +43,10 @@ fn out_of_range(at: usize) -> Fault
     }
 }
 
-// The number of a field that begins at a byte of the rest.
+// The number of a field that begins at a byte of the rest, or its fault.
 pub(crate) fn number(rest: &[u8], at: usize, field: Field, least_cover: u16) -> Result<u16, Fault>
     requires { ⌜ at + layout field .bytes ≤ length (now rest) ⌝ }
-    ensures { λ r. ⌜ Answers (number-fault field «least_cover» (now (rest .entry)) at) (λ v. (v ≡ number-at field (now (rest .entry)) at) × (layout field .allowed «least_cover» v ≡ true)) r ⌝ }
+    ensures { λ r. ⌜ NumberAs field «least_cover» (now (rest .entry)) at r ⌝ }
 {
     let value = unsigned(rest, at, field.bytes());
     if field.allows(value, least_cover) {
@@ -58,16 +56,17 @@ pub(crate) fn number(rest: &[u8], at: usize, field: Field, least_cover: u16) -> 
     }
 }
 
+// Whether a moment or a shear is in range.
 fn is_moderate(value: i32) -> bool
     ensures { λ r. ⌜ r ≡ moderate value ⌝ }
 {
     -100_000 <= value && value <= 100_000
 }
 
-// A moment or a shear that begins at a byte of the rest.
+// A moment or a shear that begins at a byte of the rest, or its fault.
 pub(crate) fn load(rest: &[u8], at: usize) -> Result<i32, Fault>
     requires { ⌜ at + 4 ≤ length (now rest) ⌝ }
-    ensures { λ r. ⌜ Answers (load-fault (now (rest .entry)) at) (λ z. (z ≡ signed-at (now (rest .entry)) at) × (negsuc 99999 ≤ℤ z) × (z ≤ℤ pos 100000)) r ⌝ }
+    ensures { λ r. ⌜ LoadAs (now (rest .entry)) at r ⌝ }
 {
     let value = signed(rest, at);
     if is_moderate(value) {

@@ -1,10 +1,10 @@
 ghost use mathlib.Core.Path.{_≡_};
-ghost use Rattle.rebar.specs.Actions.{ActionsOf};
-use crate::actions::Actions;
-use crate::loads::Loads;
+ghost use Rattle.loads.specs.Actions.{ActionsOf};
 use crate::materials::Materials;
 use crate::member::Member;
 use crate::section::Section;
+use loads::actions::Actions;
+use loads::loads::Loads;
 
 // A beam. It carries the factored actions of its loads, so that they are computed once and not at every question.
 #[derive(Clone, Copy)]

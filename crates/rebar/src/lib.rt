@@ -1,8 +1,6 @@
-// The vocabulary of the line: what beams and cages are, the actions of a beam, the steel of a cage.
-pub mod actions; // factored actions of a set of loads
+// The vocabulary of the line: what beams and cages are, and the steel of a cage.
 pub mod beam; // a beam with its actions
 pub mod cage; // bars of a face, ties, cages
-pub mod loads; // moments and shears of four load cases at three stations
 mod marks; // diameter and area by bar mark
 pub mod materials; // concrete, steel, aggregate, and the tables of the grades
 pub mod member; // span, frame and shear factor

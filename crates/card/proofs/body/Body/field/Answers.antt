@@ -1,10 +1,9 @@
 use Prim.Native.Nat.{_<_}
-use mathlib.Core.Path.{_≡_, _∙_, sym, ap}
+use mathlib.Core.Path.{sym}
 use native.Mathlib.Omega.{arith}
 use Rattle.card.specs.Layout.{layout}
-use Rattle.card.specs.Map.{offset}
 use Rattle.card.proofs.Fields.{absent-field, standing-field}
-use Rattle.card.proofs.Offsets.{offset-within}
+use Rattle.card.proofs.Offsets.{begins, lies-within}
 use Rattle.card.proofs.Rows.{field-size}
 use Rattle.card.proofs.body.Body.field.Needs as need
 
@@ -15,16 +14,10 @@ returns-then-not-has c =
 
 pub number-requires : need.number-requires
 number-requires c κs =
-    let body = c .args .self .now in
-    let k = layout (c .args .field) .bit in
-    let b : k < 13 = omega arith in
-    let a : c .offset-at .result ≡ offset (body .map .bits) k = c .offset-at .ensures .is ∙ ap (offset (body .map .bits)) (c .bit .ensures .is) in
-    let w = offset-within (body .map .bits) k 13 b (sym (c .if-not-has .ensures tt)) in
-    let z = field-size (c .args .field) in
-    let l = body .whole in
-    omega arith
+    let known : layout (c .args .field) .bit < 13 = omega arith in
+    lies-within _ _ _ _ (c .bit .ensures .is) (c .offset-at .ensures .is) _ _ known (sym (c .if-not-has .ensures tt)) (field-size (c .args .field)) (c .args .self .now .whole)
 
 pub returns : need.returns
 returns c =
-    let a = c .offset-at .ensures .is ∙ ap (offset (c .args .self .now .map .bits)) (c .bit .ensures .is) in
-    standing-field _ _ _ _ _ _ (sym (c .if-not-has .ensures tt)) a (c .number .ensures)
+    let at = begins _ _ _ _ (c .bit .ensures .is) (c .offset-at .ensures .is) in
+    standing-field _ _ _ _ _ _ (sym (c .if-not-has .ensures tt)) at (c .number .ensures)

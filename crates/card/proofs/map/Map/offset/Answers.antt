@@ -1,5 +1,4 @@
 use borrow.Author.Needs.{needs}
-use native.Mathlib.Omega.{arith}
 use Rattle.card.proofs.Offsets.{offset-none, offset-standing, offset-absent}
 use Rattle.card.proofs.map.Map.offset.Needs as need
 

@@ -1,6 +1,6 @@
-use Rattle.rebar.proofs.Peaks.{peak}
-use Rattle.rebar.proofs.Bounds.{four, four-within}
-use Rattle.rebar.proofs.actions.Actions.of.Needs as need
+use Rattle.loads.proofs.Peaks.{peak}
+use Rattle.loads.proofs.Bounds.{four, four-within}
+use Rattle.loads.proofs.actions.Actions.of.Needs as need
 
 pub ghost-result : need.ghost-result
 ghost-result c =

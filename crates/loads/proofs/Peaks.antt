@@ -11,9 +11,9 @@ use Rattle.std.specs.Numbers.{maxZ, minZ}
 use Rattle.std.proofs.shelf.Signed.{ints, clamps, folded-maxZ-bounds, folded-maxZ-reached}
 use Rattle.std.specs.shelf.Lists.{All, Has}
 use Rattle.std.proofs.shelf.Elements.{all-has}
-use Rattle.rebar.specs.declared.loads.Loads.{Loads}
-use Rattle.rebar.specs.Combinations.{greatest, least, unsigned, moments, shears, gravity-shears}
-use Rattle.rebar.specs.Actions.{Peak}
+use Rattle.loads.specs.declared.loads.Loads.{Loads}
+use Rattle.loads.specs.Combinations.{greatest, least, unsigned, moments, shears, gravity-shears}
+use Rattle.loads.specs.Actions.{Peak}
 
 pub folded-append : {A B : Type 0} (f : B → A → B) (a : B) (xs ys : List A) → folded f a (xs ++ ys) ≡ folded f (folded f a xs) ys
 folded-append f a [] ys = refl

@@ -1,6 +1,6 @@
 use native.Mathlib.Omega.{arith}
 use Rattle.std.proofs.shelf.Lists.{take-map}
-use Rattle.rebar.proofs.actions.combinations.Envelope.of.Needs as need
+use Rattle.loads.proofs.actions.combinations.Envelope.of.Needs as need
 
 pub returns : need.returns
 returns c =

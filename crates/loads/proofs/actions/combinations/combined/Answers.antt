@@ -3,8 +3,8 @@ use mathlib.Core.List.{List, [], _∷_}
 use lib.IntN.{ℤ}
 use native.Mathlib.Omega.{arith}
 use Rattle.std.proofs.shelf.Signed.{ints}
-use Rattle.rebar.specs.Combinations.{rows}
-use Rattle.rebar.proofs.actions.combinations.combined.Needs as need
+use Rattle.loads.specs.Combinations.{rows}
+use Rattle.loads.proofs.actions.combinations.combined.Needs as need
 
 cons : {x y : ℤ} {xs ys : List ℤ} → x ≡ y → xs ≡ ys → x ∷ xs ≡ y ∷ ys
 cons p q = λ i. p i ∷ q i

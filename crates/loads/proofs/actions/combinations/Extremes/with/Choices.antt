@@ -2,7 +2,7 @@ use mathlib.Core.Path.{_≡_}
 use lib.ListN.{take}
 use Rattle.std.specs.Iters.{folded}
 use Rattle.std.specs.Numbers.{maxZ, minZ}
-use Rattle.rebar.proofs.actions.combinations.Extremes.with.Given as given
+use Rattle.loads.proofs.actions.combinations.Extremes.with.Given as given
 
 abbrev pub Inv-loop-sum : given.InvT-loop-sum
 Inv-loop-sum l =

@@ -3,7 +3,7 @@ use borrow.Author.Needs.{needs}
 use Rattle.std.proofs.shelf.Signed.{toZ-ofZ}
 use Rattle.std.proofs.shelf.Sums.{folded-more}
 use Rattle.std.proofs.shelf.Lists.{take-all}
-use Rattle.rebar.proofs.actions.combinations.Extremes.with.Needs as need
+use Rattle.loads.proofs.actions.combinations.Extremes.with.Needs as need
 
 pub loop-sum-again : need.loop-sum-again
 loop-sum-again c = (grind (arith, toZ-ofZ, folded-more), grind (arith, toZ-ofZ, folded-more))

@@ -8,11 +8,11 @@ use native.Mathlib.Omega.{arith}
 use Rattle.std.specs.shelf.Lists.{All}
 use Rattle.std.proofs.shelf.Signed.{ints}
 use Rattle.std.proofs.shelf.Elements.{all-append, all-map, all-weaker}
-use Rattle.rebar.specs.declared.loads.Force.{Force}
-use Rattle.rebar.specs.declared.loads.Case.{Case}
-use Rattle.rebar.specs.declared.loads.Loads.{Loads}
-use Rattle.rebar.specs.Combinations.{Row, rows, gravity-rows, weighted, unsigned, greatest, least, at-station, combinations, moments, shears, gravity-shears}
-use Rattle.rebar.proofs.Peaks.{bounded, most-size, least-size, whole-size}
+use Rattle.loads.specs.declared.loads.Force.{Force}
+use Rattle.loads.specs.declared.loads.Case.{Case}
+use Rattle.loads.specs.declared.loads.Loads.{Loads}
+use Rattle.loads.specs.Combinations.{Row, rows, gravity-rows, weighted, unsigned, greatest, least, at-station, combinations, moments, shears, gravity-shears}
+use Rattle.loads.proofs.Peaks.{bounded, most-size, least-size, whole-size}
 
 pub record Within (k : ℕ) (z : ℤ) : Type 0 where
   pub low : negℤ (pos k) ≤ℤ z
