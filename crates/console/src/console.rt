@@ -24,13 +24,13 @@ pub enum Failure {
     Bill(Refusal),
 }
 
-pub impl From<AllocError> for Failure as FailureFromAlloc {
+impl From<AllocError> for Failure as FailureFromAlloc {
     fn from(_error: AllocError) -> Failure {
         Failure::NoMemory
     }
 }
 
-pub impl From<Refusal> for Failure as FailureFromRefusal {
+impl From<Refusal> for Failure as FailureFromRefusal {
     fn from(refusal: Refusal) -> Failure {
         Failure::Bill(refusal)
     }

@@ -1,13 +1,16 @@
 -- No two decisions can both be right.
 use Prim.Native.Nat.{ℕ, _≤_, _<_}
 use mathlib.Core.Path.{_≡_, ap, sym, _∙_}
+use mathlib.Core.Bool.{Bool}
 use mathlib.Core.Logic.{_⊎_, inl, inr}
 use native.Mathlib.Omega.{arith}
 use Rattle.rebar.specs.declared.beam.Beam.{Beam}
 use Rattle.rebar.specs.declared.cage.Cage.{Cage}
 use Rattle.rebar.specs.Steel.{steel}
+use Rattle.stock.specs.declared.kind.Kind.{Kind}
+use Rattle.search.specs.declared.decision.Decision.{Decision}
 use Rattle.search.specs.declared.decision.Decision.the-variants.{Chosen, Impossible}
-use Rattle.search.specs.Lightest.{Better, OneDecision}
+use Rattle.search.specs.Lightest.{Better, Lightest}
 use Rattle.search.proofs.Same.{same-bars, same-ties, same-cage, same-choice}
 
 -- where neither of two lists comes before the other, the first numbers are equal, and neither rest comes before the other
@@ -29,7 +32,10 @@ same beam c d h k =
     let l = level _ _ (g .1) (g .2) in
     same-cage c d (same-bars _ _ (a .0) (b .0)) (same-bars _ _ (e .0) (f .0)) (same-ties _ _ (g .0) (l .0))
 
-pub one-decision : OneDecision
+pub one-decision : (answer : Beam → Cage → ℕ) (got : Kind → ℕ → Bool) (beam : Beam) (r s : Decision)
+    → Lightest answer got beam r
+    → Lightest answer got beam s
+    → r ≡ s
 one-decision answer got beam (Chosen x) (Chosen y) p q =
     let e = same beam (x .cage) (y .cage) (q .3 (x .cage) (p .0) (p .1)) (p .3 (y .cage) (q .0) (q .1)) in
     ap Chosen (same-choice x y e (p .2 ∙ ap (steel beam) e ∙ sym (q .2)))

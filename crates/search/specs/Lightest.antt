@@ -44,11 +44,3 @@ Lightest answer got beam (Chosen x) =
 Lightest answer got beam (Impossible n) =
     ((d : Cage) → FromStock got d → (Passes answer beam d → ⊥) × (answer beam d ≤ n))
     × (((d : Cage) × (FromStock got d × (answer beam d ≡ n))) ⊎ ((n ≡ 0) × ((d : Cage) → FromStock got d → ⊥)))
-
--- no two decisions can both be right
-abbrev pub OneDecision : Type 0
-OneDecision =
-    (answer : Beam → Cage → ℕ) (got : Kind → ℕ → Bool) (beam : Beam) (r s : Decision)
-    → Lightest answer got beam r
-    → Lightest answer got beam s
-    → r ≡ s

@@ -1,6 +1,8 @@
+ghost use mathlib.Core.Path.{_≡_};
 ghost use Rattle.rebar.specs.declared.cage.Ties.{Ties};
 ghost use Rattle.stock.specs.Stock.{has};
-ghost use Rattle.search.specs.Lightest.{Lightest, OneDecision};
+ghost use Rattle.search.specs.declared.decision.Decision.{Decision};
+ghost use Rattle.search.specs.Lightest.{Lightest};
 ghost use Rattle.search.specs.Search.{MainIn, Step, Listed, Done, OfPair, OfBottom};
 use crate::decision::Choice;
 use crate::decision::Decision;
@@ -100,6 +102,7 @@ fn weigh_twins<P: Book>(
 // greatest number with which the pile refuses one.
 pub fn design<P: Book>(pile: &P, beam: &Beam, stock: &Stock) -> Decision
     ensures lightest_or_none { λ r. ⌜ Lightest (P·Book .answer (now (pile .entry))) (has (now (stock .entry))) (now (beam .entry)) r ⌝ }
+    ensures decision_is_the_only_one { λ r. ⌜ ((s : Decision) → Lightest (P·Book .answer (now (pile .entry))) (has (now (stock .entry))) (now (beam .entry)) s → s ≡ r) ⌝ }
 {
     let table = TieSteel::of(beam, stock);
     let mut found = weigh_twins(pile, beam, stock, &table, Decision::Impossible(0));
@@ -110,11 +113,4 @@ pub fn design<P: Book>(pile: &P, beam: &Beam, stock: &Stock) -> Decision
         }
     }
     found
-}
-
-// No two decisions can both be right, so `design` has no choice.
-pub fn one_decision() -> u8
-    ensures decision_is_the_only_one { λ _. ⌜ OneDecision ⌝ }
-{
-    0
 }

@@ -6,6 +6,7 @@ use Rattle.stock.specs.Stock.{has}
 use Rattle.search.specs.Lightest.{FromStock}
 use Rattle.search.specs.Search.{bars-place}
 use Rattle.search.proofs.Loops.{took, passed, bars-out, settled}
+use Rattle.search.proofs.One.{one-decision}
 use Rattle.search.proofs.Same.{bars-place-lt, same-bars-place}
 use Rattle.search.proofs.lightest.design.Needs as need
 use Rattle.search.proofs.lightest.design.Needs.{then-has-bars, else-has-bars}
@@ -26,8 +27,12 @@ loop-i-again g c =
 
 pub returns : need.returns
 returns g c =
+    let answer = g .P·Book .answer (c .args .pile .now) in
+    let got = has (c .args .stock .now) in
+    let h =
+    settled answer got (c .args .beam .now) (c .loop-i .found) (c .loop-i .inv .0 .sound (c .weigh-twins-found .ensures .sound (inl refl)))
+    (λ d f. c .loop-i .inv .1 d (f, omega (arith, bars-place-lt (d .bottom)))) in
     record {
-      lightest-or-none =
-          settled (g .P·Book .answer (c .args .pile .now)) (has (c .args .stock .now)) (c .args .beam .now) _ (c .loop-i .inv .0 .sound (c .weigh-twins-found .ensures .sound (inl refl)))
-          (λ d f. c .loop-i .inv .1 d (f, omega (arith, bars-place-lt (d .bottom))));
+      lightest-or-none = h;
+      decision-is-the-only-one = λ s k. one-decision answer got (c .args .beam .now) s (c .loop-i .found) k h;
     }
