@@ -2,7 +2,7 @@ ghost use mathlib.Core.Path.{_≡_};
 ghost use Rattle.card.specs.Faults.{fault-number};
 
 // Why a card is refused.
-#[derive(Clone, Copy, PartialEq, Eq, Debug)]
+#[derive(Clone, Copy)]
 pub enum FaultKind {
     BytesMissing,
     UnknownBit,
@@ -12,7 +12,7 @@ pub enum FaultKind {
 }
 
 // The fault of a card: its kind, and the byte of the card where it lies.
-#[derive(Clone, Copy, PartialEq, Eq, Debug)]
+#[derive(Clone, Copy)]
 pub struct Fault {
     pub kind: FaultKind,
     pub place: usize,

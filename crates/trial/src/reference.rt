@@ -1,4 +1,3 @@
-use card::fault::FaultDebug;
 use card::reader::read_card;
 use rebar::beam::Beam;
 use std::test::*;
@@ -15,9 +14,9 @@ const FRAMED: [u8; 59] = *b"\x06\xcb\x01\x2c\x01\xf4\x00\xd2\x01\x13\x88\
 
 // The reference beam, in the frame or not.
 pub(crate) fn beam(in_frame: bool) -> Result<Beam, Fail> {
-    if in_frame {
-        Ok(read_card(&FRAMED)?)
-    } else {
-        Ok(read_card(&CARD)?)
+    let card: &[u8] = if in_frame { &FRAMED } else { &CARD };
+    match read_card(card) {
+        Ok(beam) => Ok(beam),
+        Err(_) => Err(Fail::new("the card is refused")),
     }
 }
