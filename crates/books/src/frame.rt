@@ -18,7 +18,7 @@ pub struct Frame<B> {
 }
 
 impl Face {
-    // The moment that the face probably bears, in tenths of kg·m.
+    // The probable moment of the face, in kg·mm.
     fn probable_moment(&self, section: &Section, materials: &Materials) -> u64
         ensures is { λ r. ⌜ r ≡ probable-moment (now (section .entry)) (now (materials .entry)) (now (self .entry) .force) (now (self .entry) .depth) ⌝ }
         ensures small { λ r. ⌜ r ≤ 5000000000 ⌝ }

@@ -1,4 +1,5 @@
-// Reads a stream of orders from standard input, and prints what the line answers.
+// Reads a stream of orders from standard input, and prints the console's answer.
+use console::console::Failure;
 use console::console::answer_orders;
 use std::error::AnyError;
 use std::io::Read;
@@ -10,7 +11,8 @@ fn main(rt: LibcRuntime) -> Result<(), AnyError> {
     rt.stdin().read_to_end(&mut stream)?;
     let out = match answer_orders(heap, stream.as_slice()) {
         Ok(out) => out,
-        Err(_) => return Err("no memory".into()),
+        Err(Failure::NoMemory) => return Err("no memory".into()),
+        Err(Failure::Bill(_)) => return Err("the bill is refused".into()),
     };
     rt.stdout().write_all(out.as_slice())?;
     Ok(())

@@ -4,6 +4,7 @@ use mathlib.Core.List.{List, _++_}
 use lib.Chars.{codes}
 use Rattle.std.specs.Written.{decimal}
 use lib.Utf8.{encode}
+use Rattle.sheet.specs.Refusals.{refusal-number, byte-place}
 use Rattle.console.specs.declared.transcript.Outcome.{Outcome}
 use Rattle.console.specs.declared.transcript.Outcome.the-variants.{Done, Cage, NoCage, Refused}
 
@@ -12,7 +13,7 @@ abbrev pub outcome-text : Outcome → List ℕ
 outcome-text Done = codes "OK\n"
 outcome-text Cage = codes "CAGE\n"
 outcome-text (NoCage n) = codes "NONE " ++ (decimal n ++ codes "\n")
-outcome-text (Refused n p) = codes "REFUSED " ++ (decimal n ++ (codes " " ++ (decimal p ++ codes "\n")))
+outcome-text (Refused e) = codes "REFUSED " ++ (decimal (refusal-number e) ++ (codes " " ++ (decimal (byte-place e) ++ codes "\n")))
 
 -- letter, place or mark, and what became of the order
 abbrev pub line-text : ℕ → ℕ → Outcome → List ℕ

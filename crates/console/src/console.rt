@@ -44,7 +44,7 @@ fn decided<P: Book>(sheet: &Sheet<P>, place: u8) -> Outcome {
             Shown::Impossible(article) => Outcome::NoCage(article),
             Shown::Empty | Shown::Open => Outcome::Done,
         },
-        Err(refusal) => Outcome::refused(refusal),
+        Err(refusal) => Outcome::Refused(refusal),
     }
 }
 
@@ -58,21 +58,21 @@ fn carry_out<P: Book>(
         Order::Stock { kind, mark, is_in } => {
             let outcome = match sheet.stock(kind, mark, is_in) {
                 Ok(()) => Outcome::Done,
-                Err(refusal) => Outcome::refused(refusal),
+                Err(refusal) => Outcome::Refused(refusal),
             };
             order_line(heap, 'S', mark, outcome)
         }
         Order::Enter { place, card } => {
             let outcome = match sheet.enter(place, card) {
                 Ok(()) => Outcome::Done,
-                Err(refusal) => Outcome::refused(refusal),
+                Err(refusal) => Outcome::Refused(refusal),
             };
             order_line(heap, 'E', place, outcome)
         }
         Order::Design { place } => {
             let outcome = match sheet.design(place) {
                 Ok(()) => decided(sheet, place),
-                Err(refusal) => Outcome::refused(refusal),
+                Err(refusal) => Outcome::Refused(refusal),
             };
             order_line(heap, 'D', place, outcome)
         }
@@ -98,7 +98,7 @@ fn carry_out_all<P: Book>(
     Ok(())
 }
 
-// What the line answers to a stream of orders, on the frame layer over the general book: a line for each order,
+// The answer to a stream of orders, on the frame layer over the general book: a line for each order,
 // then the bill of the chosen places.
 pub fn answer_orders(heap: Global, stream: &[u8]) -> Result<Vec<u8>, Failure> {
     let mut sheet = Sheet::open(Frame { below: General });

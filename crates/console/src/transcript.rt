@@ -1,8 +1,6 @@
 ghost use mathlib.Core.Path.{_≡_};
 ghost use Rattle.std.specs.Of.String.{string-bytes};
 ghost use Rattle.std.specs.Vec.{made};
-ghost use Rattle.sheet.specs.Refusals.{refusal-number, byte-place};
-ghost use Rattle.console.specs.declared.transcript.Outcome.the-variants.{Refused};
 ghost use Rattle.console.specs.Transcript.{line-text};
 use sheet::refusal::Refusal;
 use std::alloc::AllocError;
@@ -14,19 +12,7 @@ pub(crate) enum Outcome {
     Done,
     Cage,
     NoCage(u8),
-    Refused { number: u8, place: usize },
-}
-
-impl Outcome {
-    // A refusal with its number and byte place.
-    pub(crate) fn refused(refusal: Refusal) -> Outcome
-        ensures { λ r. ⌜ r ≡ Refused (refusal-number refusal) (byte-place refusal) ⌝ }
-    {
-        Outcome::Refused {
-            number: refusal.number(),
-            place: refusal.byte_place(),
-        }
-    }
+    Refused(Refusal),
 }
 
 // The line of an order: its letter, its place or mark, and what became of it.
@@ -42,9 +28,10 @@ pub(crate) fn order_line(
         Outcome::Done => format!(heap, "{letter} {number} OK\n"),
         Outcome::Cage => format!(heap, "{letter} {number} CAGE\n"),
         Outcome::NoCage(article) => format!(heap, "{letter} {number} NONE {article}\n"),
-        Outcome::Refused { number: why, place } => format!(
-            heap,
-            "{letter} {number} REFUSED {why} {place}\n"
-        ),
+        Outcome::Refused(refusal) => {
+            let why = refusal.number();
+            let place = refusal.byte_place();
+            format!(heap, "{letter} {number} REFUSED {why} {place}\n")
+        }
     }
 }

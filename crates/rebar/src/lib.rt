@@ -1,4 +1,4 @@
-// The vocabulary of the line: what beams and cages are, and the steel of a cage.
+// The vocabulary: what beams and cages are, and the steel of a cage.
 pub mod beam; // a beam with its actions
 pub mod cage; // bars of a face, ties, cages
 mod marks; // diameter and area by bar mark

@@ -29,35 +29,39 @@ fn told(in_frame: bool, bottom: Bars, top: Bars, spacing: u16) -> Result<u8, Fai
 
 #[test]
 fn bending_and_shear() -> Result<(), Fail> {
-    check_eq(told(false, bars(3, 5), bars(4, 5)?, 200), 0)?;
-    check_eq(told(false, bars(3, 5), bars(3, 5)?, 200), 7)?;
-    check_eq(told(false, bars(2, 5), bars(4, 5)?, 200), 6)?;
-    check_eq(told(false, bars(3, 5), bars(4, 5)?, 225), 13)?;
-    check_eq(told(false, bars(3, 5), bars(4, 5)?, 125), 13)?;
-    check_eq(told(false, bars(3, 5), bars(4, 5)?, 150), 0)
+    check_eq(told(false, bars(3, 5), bars(4, 5), 200)?, 0)?;
+    check_eq(told(false, bars(3, 5), bars(3, 5), 200)?, 7)?;
+    check_eq(told(false, bars(2, 5), bars(4, 5), 200)?, 6)?;
+    check_eq(told(false, bars(3, 5), bars(4, 5), 225)?, 13)?;
+    check_eq(told(false, bars(3, 5), bars(4, 5), 125)?, 13)?;
+    check_eq(told(false, bars(3, 5), bars(4, 5), 150)?, 0)
 }
 
 #[test]
 fn too_much_steel() -> Result<(), Fail> {
-    check_eq(told(false, bars(12, 11), bars(4, 5)?, 200), 1)?;
-    check_eq(told(false, bars(2, 11), bars(2, 11)?, 200), 4)
+    check_eq(told(false, bars(12, 11), bars(4, 5), 200)?, 1)?;
+    check_eq(told(false, bars(2, 11), bars(2, 11), 200)?, 4)
 }
 
 #[test]
 fn in_a_frame() -> Result<(), Fail> {
-    check_eq(told(true, bars(3, 5), bars(4, 5)?, 150), 26)?;
-    check_eq(told(true, bars(3, 5), bars(4, 5)?, 100), 0)
+    check_eq(told(true, bars(3, 5), bars(4, 5), 150)?, 26)?;
+    check_eq(told(true, bars(3, 5), bars(4, 5), 100)?, 0)
+}
+
+// A worked cage at a spacing.
+fn worked_cage(spacing: u16) -> Cage
+    requires { ⌜ 50 ≤ spacing ⌝ ∗ ⌜ spacing ≤ 600 ⌝ ∗ ⌜ spacing % 25 ≡ 0 ⌝ }
+{
+    Cage {
+        bottom: bars(3, 5),
+        top: bars(4, 5),
+        ties: Ties { mark: 3, spacing },
+    }
 }
 
 #[test]
 fn steel_of_the_worked_cages() -> Result<(), Fail> {
-    let cage = Cage {
-        bottom: bars(3, 5),
-        top: bars(4, 5),
-        ties: Ties {
-            mark: 3,
-            spacing: 200,
-        },
-    };
-    check_eq(beam(false)?.steel(&cage), 9_604_780)
+    check_eq(beam(false)?.steel(&worked_cage(200)), 9_604_780)?;
+    check_eq(beam(true)?.steel(&worked_cage(100)), 12_041_500)
 }

@@ -121,7 +121,7 @@ impl Begun {
 }
 
 impl Refusal {
-    // The number that the refusal has on the line.
+    // The number under which the refusal is reported.
     pub fn number(self) -> u8
         ensures number_of_the_refusal { λ r. ⌜ r ≡ refusal-number self ⌝ }
     {
