@@ -1,4 +1,6 @@
 // Reads a stream of orders from standard input, and prints the console's answer.
+#![tactic(auto)]
+
 use anyhow::anyhow;
 use console::console::{Failure, answer_orders};
 use std::io::{Read, Write};

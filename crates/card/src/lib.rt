@@ -1,4 +1,6 @@
 // The beam card: bytes to a beam, or a fault with the byte place where it lies.
+#![tactic(auto)]
+
 mod body; // a card whose map and length are right, and the parts of its beam
 pub mod fault; // why a card is refused, and where
 mod layout; // the fields: bit, default, allowed values

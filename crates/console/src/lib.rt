@@ -1,4 +1,6 @@
 // The console: a stream of orders in, one line per order and the bending bill out.
+#![tactic(auto)]
+
 mod billing; // the bill of the places that are chosen
 pub mod console; // a whole stream from its first byte to the bill
 mod order; // the orders that a stream spells

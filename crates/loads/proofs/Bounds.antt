@@ -1,5 +1,5 @@
 -- No combination of loads within their ranges passes 3,800,000, and none of dead and live load alone 2,800,000.
-use Rattle.std.proofs.Common.{◌≡◌, ℕ, ◌≤◌, max, List, [], ◌∷◌, ◌++◌, map, ℤ, pos, negsuc, neg_ℤ, nat_abs, ◌≤ℤ◌, arith}
+use Rattle.std.proofs.Common.{◌≡◌, ℕ, ◌≤◌, max, List, map, ℤ, pos, negsuc, neg_ℤ, nat_abs, ◌≤ℤ◌, arith}
 use Rattle.std.specs.List.{AllByRecursion as All}
 use Rattle.std.proofs.lemmas.Int.{ints}
 use Rattle.std.proofs.ByRecursion.{All-append, All-map, All-weaker}

@@ -4,8 +4,7 @@ use Rattle.std.specs.Int.{int_max, int_min}
 use Rattle.std.proofs.lemmas.Int.{ints, clamps}
 use Rattle.std.proofs.ByRecursion.{folded_max_z_bounds, folded_max_z_reached, all-has}
 use Rattle.std.specs.List.{ContainsAt as Has, AllByRecursion as All}
-use Rattle.loads.specs.declared.loads.Loads.{Loads}
-use Rattle.loads.specs.Combinations.{greatest, least, unsigned, moments, shears, gravity_shears}
+use Rattle.loads.specs.Combinations.{greatest, least, unsigned}
 use Rattle.loads.specs.Actions.{Peak}
 
 pub folded_append : {A B : Type 0} (f : B → A → B) (a : B) (xs ys : List A) → fold f a (xs ++ ys) ≡ fold f (fold f a xs) ys

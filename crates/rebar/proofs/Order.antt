@@ -1,7 +1,8 @@
 -- The order of lists of numbers.
-use Rattle.std.proofs.Common.{◌≡◌, ℕ, ◌<◌, List, [], ◌∷◌, Ordering, Less, Equal, Greater, sym, refl, ◌∙◌, subst, inl, inr, arith}
-use Rattle.std.specs.Cmp.Lexicographic.{Lex}
-use Rattle.std.specs.Ordering.{MatchOrdering}
+use Rattle.std.proofs.Common.{◌≡◌, ℕ, ◌<◌, List, [], ◌∷◌, Ordering, Less, Equal, Greater, sym, refl, ◌∙◌, inl, inr, arith}
+use Rattle.std.specs.Cmp.{ranks}
+use Rattle.std.specs.Cmp.Lexicographic.{slice_cmp}
+use Rattle.std.specs.Ordering.{MatchOrdering, nat_cmp, ordering_then}
 use Rattle.rebar.specs.Order.{Before, numbers, Smaller}
 use Rattle.rebar.specs.declared.cage.Cage.{Cage}
 use Rattle.rebar.proofs.Same.{same_numbers}
@@ -23,23 +24,20 @@ before_itself (x ∷ xs) (inl h) = omega arith
 before_itself (x ∷ xs) (inr h) = before_itself xs h.1
 
 -- what one number more in front does to the order of the rests
-onto : (x y : ℕ) (xs ys : List ℕ) (o : Ordering) → x ≡ y → MatchOrdering o (Before xs ys) (xs ≡ ys) (Before ys xs)
-    → MatchOrdering o (Before (x ∷ xs) (y ∷ ys)) (x ∷ xs ≡ y ∷ ys) (Before (y ∷ ys) (x ∷ xs))
-onto x y xs ys Less e h = inr (e, h)
-onto x y xs ys Equal e h = cc
-onto x y xs ys Greater e h = inr (sym e, h)
+onto : (x y : ℕ) (xs ys : List ℕ) (o p : Ordering) → MatchOrdering o (x < y) (x ≡ y) (y < x) → MatchOrdering p (Before xs ys) (xs ≡ ys) (Before ys xs)
+    → MatchOrdering (ordering_then o p) (Before (x ∷ xs) (y ∷ ys)) (x ∷ xs ≡ y ∷ ys) (Before (y ∷ ys) (x ∷ xs))
+onto x y xs ys Less p h k = inl h
+onto x y xs ys Equal Less h k = inr (h, k)
+onto x y xs ys Equal Equal h k = cc
+onto x y xs ys Equal Greater h k = inr (sym h, k)
+onto x y xs ys Greater p h k = inl h
 
 -- what `cmp` says of two lists of numbers
-abbrev Compared : List ℕ → List ℕ → Ordering → Type 0
-Compared = Lex (λ a b k. MatchOrdering k (a < b) (a ≡ b) (b < a))
-
-ranked : (xs ys : List ℕ) (o : Ordering) → Compared xs ys o → MatchOrdering o (Before xs ys) (xs ≡ ys) (Before ys xs)
-ranked [] [] o h = rw h refl
-ranked [] (y ∷ ys) o h = rw h tt
-ranked (x ∷ xs) [] o h = rw h tt
-ranked (x ∷ xs) (y ∷ ys) o (Less, h, e) = rw e (inl h)
-ranked (x ∷ xs) (y ∷ ys) o (Equal, h, e) = onto x y xs ys o h (ranked xs ys o e)
-ranked (x ∷ xs) (y ∷ ys) o (Greater, h, e) = rw e (inl h)
+listed : (xs ys : List ℕ) → MatchOrdering (slice_cmp nat_cmp xs ys) (Before xs ys) (xs ≡ ys) (Before ys xs)
+listed [] [] = refl
+listed [] (y ∷ ys) = tt
+listed (x ∷ xs) [] = tt
+listed (x ∷ xs) (y ∷ ys) = onto x y xs ys (nat_cmp x y) (slice_cmp nat_cmp xs ys) (ranks x y) (listed xs ys)
 
 one_cage : (c d : Cage) (o : Ordering) → MatchOrdering o (Smaller c d) (numbers c ≡ numbers d) (Smaller d c)
     → MatchOrdering o (Smaller c d) (c ≡ d) (Smaller d c)
@@ -48,8 +46,5 @@ one_cage c d Equal h = same_numbers c d h
 one_cage c d Greater h = h
 
 -- what it says of the numbers of two cages
-pub ordered : (c d : Cage) (xs ys : List ℕ) (o : Ordering) → xs ≡ numbers c → ys ≡ numbers d → Compared xs ys o
-    → MatchOrdering o (Smaller c d) (c ≡ d) (Smaller d c)
-ordered c d xs ys o p q h =
-    let k = subst (λ (zs : List ℕ). Compared zs ys o) p h in
-    one_cage c d o (ranked (numbers c) (numbers d) o (subst (λ (zs : List ℕ). Compared (numbers c) zs o) q k))
+pub ordered : (c d : Cage) (o : Ordering) → o ≡ slice_cmp nat_cmp (numbers c) (numbers d) → MatchOrdering o (Smaller c d) (c ≡ d) (Smaller d c)
+ordered c d o e = one_cage c d o (rw e (listed (numbers c) (numbers d)))

@@ -1,4 +1,6 @@
 // The vocabulary: what beams and cages are, and the steel of a cage.
+#![tactic(auto)]
+
 pub mod beam; // a beam with its actions
 pub mod cage; // bars of a face, ties, cages
 mod from_numbers; // bars, ties and parts of a beam from numbers that may be out of range

@@ -1,5 +1,5 @@
 -- How the table of a sheet changes.
-use Rattle.std.specs.Prelude.{ℕ, ◌+◌, min, Bool, cond, map, set, slice_index_or, slice_set}
+use Rattle.std.specs.Prelude.{ℕ, ◌+◌, min, Bool, cond, map, slice_index_or, slice_set}
 use Rattle.std.specs.Bool.{beq}
 use Rattle.rebar.specs.declared.beam.Beam.{Beam}
 use Rattle.stock.specs.declared.kind.Kind.{Kind}

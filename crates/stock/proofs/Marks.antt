@@ -1,8 +1,8 @@
 -- Marks in stock.
-use Rattle.std.proofs.Common.{◌≡◌, ℕ, ◌-◌, ◌≤◌, Bool, true, false, eqb, List, get_or, Decides, refl, arith}
-use Rattle.std.specs.List.{IsAnyAnswer}
-use Rattle.std.proofs.lemmas.List.Elements.{contains_decides}
-use Rattle.std.proofs.lemmas.Bool.Decides.{nat_tests, same_from_decides, Decides-by_or, Decides-eqb}
+use Rattle.std.proofs.Common.{◌≡◌, ℕ, ◌-◌, ◌≤◌, Bool, true, false, List, [], ◌∷◌, get_or, refl, arith}
+use Rattle.std.specs.Bool.{beq}
+use Rattle.std.specs.List.{list_any}
+use Rattle.std.proofs.lemmas.Bool.Decides.{nat_tests}
 use Rattle.stock.specs.declared.kind.Kind.{Kind}
 use Rattle.stock.specs.declared.kind.Kind.TheVariants.{Main, Tie}
 use Rattle.stock.specs.declared.stock.Stock.{Stock}
@@ -20,7 +20,7 @@ known_main mark h k = grind (arith, nat_tests)
 pub known_tie : (mark : ℕ) → 3 ≤ mark → mark ≤ 5 → known Tie mark ≡ true
 known_tie mark h k = grind (arith, nat_tests)
 
-pub some_from_contains : (marks : List Bool) (r : Bool) → IsAnyAnswer (λ y t. Decides t (y ≡ true)) marks r → r ≡ some_in marks
-some_from_contains marks r h =
-    same_from_decides r (some_in marks) (contains_decides eqb Decides-eqb marks true r h)
-    (Decides-by_or (λ b. b) (λ b. b ≡ true) some_in (λ b. (λ e. e, λ e. e)) refl (λ _ _. refl) marks)
+pub some_from_contains : (marks : List Bool) → list_any (λ y. beq y true) marks ≡ some_in marks
+some_from_contains [] = refl
+some_from_contains (true ∷ marks) = refl
+some_from_contains (false ∷ marks) = some_from_contains marks

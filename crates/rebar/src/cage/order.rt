@@ -1,10 +1,11 @@
-ghost use Rattle.std.specs.Prelude.{◌≡◌, IsSomeAnd, Decides};
-ghost use Rattle.std.specs.Ordering.{MatchOrdering};
-ghost use Rattle.rebar.specs.declared.cage.Cage.{Cage};
-ghost use Rattle.rebar.specs.Order.{numbers, Smaller};
+ghost use Rattle.std.specs.Prelude.{◌≡◌, ◌↔◌, IsTrue, IsSomeAnd, nat_eq};
+ghost use Rattle.std.specs.Ordering.{MatchOrdering, nat_cmp, on, as_partial_cmp};
+ghost use Rattle.std.specs.Cmp.{partial_order_from_own_ties};
+ghost use Rattle.std.specs.Cmp.Lexicographic.{pointwise, slice_cmp};
 ghost use Rattle.std.specs.Cmp.Rules.{comparing};
 ghost use Rattle.std.proofs.Common.{rules};
-ghost use Rattle.std.specs.Cmp as Keys;
+ghost use Rattle.rebar.specs.declared.cage.Cage.{Cage};
+ghost use Rattle.rebar.specs.Order.{numbers, Smaller};
 
 use crate::cage::Cage;
 use std::cmp::Ordering;
@@ -27,11 +28,14 @@ impl Cage {
 }
 
 impl PartialEq for Cage {
-    ghost equals = { λ c d r. Decides r (c ≡ d) };
+    ghost eq = { on numbers (pointwise nat_eq) };
 
-    ghost laws = { Keys.partial_equiv_from_equiv (Prim.search (comparing, rules)) };
+    ghost laws = { Prim.search (comparing, rules) };
 
-    fn eq(&self, other: &Cage) -> bool {
+    fn eq(&self, other: &Cage) -> bool
+        ensures value { result ≡ on numbers (pointwise nat_eq) self.now other.now }
+        ensures the_same_cage { IsTrue result ↔ (self.now ≡ other.now) }
+    {
         self.numbers() == other.numbers()
     }
 }
@@ -41,18 +45,21 @@ impl Eq for Cage {
 }
 
 impl PartialOrd for Cage {
-    ghost compares = { λ c d r. IsSomeAnd r (λ o. MatchOrdering o (Smaller c d) (c ≡ d) (Smaller d c)) };
+    ghost partial_cmp = { as_partial_cmp (on numbers (slice_cmp nat_cmp)) };
 
-    ghost laws = { Prim.search (comparing, rules) };
+    ghost laws = { partial_order_from_own_ties (Prim.search (comparing, rules)) (Prim.search (comparing, rules)) };
 
-    fn partial_cmp(&self, other: &Cage) -> Option<Ordering> {
+    fn partial_cmp(&self, other: &Cage) -> Option<Ordering>
+        ensures value { result ≡ as_partial_cmp (on numbers (slice_cmp nat_cmp)) self.now other.now }
+        ensures smaller_cage { IsSomeAnd result (λ o. MatchOrdering o (Smaller self.now other.now) (self.now ≡ other.now) (Smaller other.now self.now)) }
+    {
         Some(self.cmp(other))
     }
 }
 
 // Of two cages the smaller is the one whose first differing number is smaller.
 impl Ord for Cage {
-    ghost orders = { λ c d o. MatchOrdering o (Smaller c d) (c ≡ d) (Smaller d c) };
+    ghost cmp = { on numbers (slice_cmp nat_cmp) };
 
     ghost total = { Prim.search (comparing, rules) };
 
@@ -60,7 +67,10 @@ impl Ord for Cage {
 
     ghost matches_eq = { Prim.search (comparing, rules) };
 
-    fn cmp(&self, other: &Cage) -> Ordering {
+    fn cmp(&self, other: &Cage) -> Ordering
+        ensures value { result ≡ on numbers (slice_cmp nat_cmp) self.now other.now }
+        ensures smaller_cage { MatchOrdering result (Smaller self.now other.now) (self.now ≡ other.now) (Smaller other.now self.now) }
+    {
         self.numbers().cmp(&other.numbers())
     }
 }

@@ -1,6 +1,5 @@
 use Rattle.std.proofs.Common.{rules}
 use Rattle.std.proofs.lemmas.List.{drop-drop}
-use Rattle.std.proofs.lemmas.Slice.{overwrites}
 use Rattle.bill.proofs.line.put_on.Goals as goal
 
 pub returns : goal.returns

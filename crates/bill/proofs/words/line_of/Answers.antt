@@ -2,8 +2,8 @@ use Rattle.std.proofs.Common.{append_assoc, arith, rules}
 use Rattle.bill.proofs.Rooms.{of_u32}
 use Rattle.bill.proofs.words.line_of.Goals as goal
 
-pub push-number-requires : goal.push-number-requires
-push-number-requires c = let h = of_u32 c.args.choice.now.steel (omega arith) in omega arith
+pub push_number-requires : goal.push_number-requires
+push_number-requires c = let h = of_u32 c.args.choice.now.steel (omega arith) in omega arith
 
 pub push-requires-2 : goal.push-requires-2
 push-requires-2 c = let h = of_u32 c.args.choice.now.steel (omega arith) in omega arith

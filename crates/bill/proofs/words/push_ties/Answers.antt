@@ -2,14 +2,14 @@ use Rattle.std.proofs.Common.{append_assoc, arith, rules}
 use Rattle.bill.proofs.Rooms.{of_ties}
 use Rattle.bill.proofs.words.push_ties.Goals as goal
 
-pub push-number-requires : goal.push-number-requires
-push-number-requires c = let h = of_ties c.args.ties.now in omega arith
+pub push_number-requires : goal.push_number-requires
+push_number-requires c = let h = of_ties c.args.ties.now in omega arith
 
 pub push-requires-2 : goal.push-requires-2
 push-requires-2 c = let h = of_ties c.args.ties.now in omega arith
 
-pub push-number-requires-2 : goal.push-number-requires-2
-push-number-requires-2 c = let h = of_ties c.args.ties.now in omega arith
+pub push_number-requires-2 : goal.push_number-requires-2
+push_number-requires-2 c = let h = of_ties c.args.ties.now in omega arith
 
 pub returns : goal.returns
 returns c =

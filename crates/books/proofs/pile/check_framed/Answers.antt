@@ -21,9 +21,9 @@ pub returns : goal.returns
 returns c =
     let b : Beam = c.args.beam.now in
     let k : Cage = c.args.cage.now in
-    let e : c.check.result ≡ first_broken (framed_articles_for b k) = subst (λ (n : ℕ). c.check.result ≡ n) (one_list b k) c.check.ensures.answers-its-meaning in
+    let e : c.check.result ≡ first_broken (framed_articles_for b k) = subst (λ (n : ℕ). c.check.result ≡ n) (one_list b k) c.check.ensures.answers_its_meaning in
     record {
-      answers-its-meaning = c.check.ensures.answers-its-meaning;
-      passes-exactly-when-every-article-holds = passes (framed_articles_for b k) _ (both_numbered b k) e;
-      refusal-names-the-first-broken-article = refuses (framed_articles_for b k) _ (both_numbered b k) e;
+      answers_its_meaning = c.check.ensures.answers_its_meaning;
+      passes_exactly_when_every_article_holds = passes (framed_articles_for b k) _ (both_numbered b k) e;
+      refusal_names_the_first_broken_article = refuses (framed_articles_for b k) _ (both_numbered b k) e;
     }

@@ -9,8 +9,8 @@ product k r b z h i j l = times (times (times (upto 265 h) (upto 20493 i)) (upto
 quotient : (x : ℕ) → x ≤ 265 * 20493 * 800 * 8800 → x / 100000000 ≤ 400000
 quotient x h = omega arith
 
-pub overflow-mul-result-3 : goal.overflow-mul-result-3
-overflow-mul-result-3 c = fits (product _ _ _ _ (omega arith) (omega arith) (omega arith) (omega arith)) tt
+pub overflow_mul-result-3 : goal.overflow_mul-result-3
+overflow_mul-result-3 c = fits (product _ _ _ _ (omega arith) (omega arith) (omega arith) (omega arith)) tt
 
 pub returns : goal.returns
 unfolding concrete_shear

@@ -4,10 +4,10 @@ use Rattle.std.proofs.lemmas.Int.{ints, to_z-of_z}
 use Rattle.card.specs.Numbers.{load_fault}
 use Rattle.card.proofs.number.load.Goals as goal
 
-pub returns-then-is-moderate : goal.returns-then-is-moderate
+pub returns-then-is_moderate : goal.returns-then-is_moderate
 unfolding load_fault
-returns-then-is-moderate c = (grind (arith, nat_tests, to_z-of_z), (grind (arith, to_z-of_z), grind (arith, ints, to_z-of_z), grind (arith, ints, to_z-of_z)))
+returns-then-is_moderate c = (grind (arith, nat_tests, to_z-of_z), (grind (arith, to_z-of_z), grind (arith, ints, to_z-of_z), grind (arith, ints, to_z-of_z)))
 
-pub returns-else-is-moderate : goal.returns-else-is-moderate
+pub returns-else-is_moderate : goal.returns-else-is_moderate
 unfolding load_fault
-returns-else-is-moderate c = grind (arith, nat_tests, to_z-of_z)
+returns-else-is_moderate c = grind (arith, nat_tests, to_z-of_z)

@@ -3,13 +3,13 @@ use Rattle.std.proofs.lemmas.Bool.Decides.{nat_tests}
 use Rattle.card.specs.Card.{map_fault}
 use Rattle.card.proofs.reader.judge.Goals as goal
 
-pub returns-then-has-unknown : goal.returns-then-has-unknown
+pub returns-then-has_unknown : goal.returns-then-has_unknown
 unfolding map_fault
-returns-then-has-unknown c = grind (arith, nat_tests)
+returns-then-has_unknown c = grind (arith, nat_tests)
 
-pub returns-then-not-has-required : goal.returns-then-not-has-required
+pub returns-then-not-has_required : goal.returns-then-not-has_required
 unfolding map_fault
-returns-then-not-has-required c = grind (arith, nat_tests)
+returns-then-not-has_required c = grind (arith, nat_tests)
 
 pub returns-then-bytes-end : goal.returns-then-bytes-end
 unfolding map_fault

@@ -8,7 +8,7 @@ pub returns : goal.returns
 returns c =
     let card = c.args.card.now in
     let body = c.new.result in
-    let judged = c.in-ok-judge.ensures in
+    let judged = c.in_ok-judge.ensures in
     let m : body.map.bits ≡ map_of card = search rules in
     let q : body.rest.now ≡ rest_of card = c.new.ensures.rest ∙ take_rest card 2 in
     let l : 2 ≤ length card = omega (arith, judged.1.1) in

@@ -4,4 +4,4 @@ use Rattle.card.proofs.reader.read_card.Goals as goal
 
 pub returns : goal.returns
 unfolding card_fault
-returns c = record { beam-or-fault = c.read.ensures; first-bad-number = judges _ _ c.read.ensures }
+returns c = record { beam_or_fault = c.read.ensures; first_bad_number = judges _ _ c.read.ensures }

@@ -6,6 +6,6 @@ pub returns-in-180 : goal.returns-in-180
 unfolding is_concrete
 returns-in-180 c = grind arith
 
-pub returns-in-default : goal.returns-in-default
+pub returns-in_default : goal.returns-in_default
 unfolding is_concrete
-returns-in-default c = grind arith
+returns-in_default c = grind arith

@@ -7,7 +7,7 @@ returns-then-check-eq0 g c =
     record {
       step =
           λ got f.
-          replaced _ got _ c.args.best c.in-Chosen.chosen c.args.choice c.in-Chosen.is c.if-is-lighter.ensures f (omega arith)
+          replaced _ got _ c.args.best c.in-Chosen.chosen c.args.choice c.in-Chosen.is c.if-is_lighter.ensures f (omega arith)
           c.requires;
       covers = λ _. not_lighter _ c.args.choice c.requires;
     }

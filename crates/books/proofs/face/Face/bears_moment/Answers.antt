@@ -15,20 +15,20 @@ squared x = times (times (lit 90000) (q_of x)) (q_of x)
 abbrev pulled : (s : Section) (m : Materials) (x : Face) → Bound (153 * x.force * m.concrete * s.width)
 pulled s m x = times (times (times (lit 153) (q_of x)) (f_of m)) (b_of s)
 
-pub overflow-mul-result-2 : goal.overflow-mul-result-2
-overflow-mul-result-2 c = fits (times (times (lit 170000) (upto 3800000 c.requires)) (f_of c.args.materials.now)) tt
+pub overflow_mul-result-2 : goal.overflow_mul-result-2
+overflow_mul-result-2 c = fits (times (times (lit 170000) (upto 3800000 c.requires)) (f_of c.args.materials.now)) tt
 
-pub overflow-mul-result-3 : goal.overflow-mul-result-3
-overflow-mul-result-3 c = fits (bent c.args.section.now c.args.materials.now _ c.requires) tt
+pub overflow_mul-result-3 : goal.overflow_mul-result-3
+overflow_mul-result-3 c = fits (bent c.args.section.now c.args.materials.now _ c.requires) tt
 
-pub overflow-mul-result-5 : goal.overflow-mul-result-5
-overflow-mul-result-5 c = fits (squared c.args.self.now) tt
+pub overflow_mul-result-5 : goal.overflow_mul-result-5
+overflow_mul-result-5 c = fits (squared c.args.self.now) tt
 
-pub overflow-add-result : goal.overflow-add-result
-overflow-add-result c = fits (plus (bent c.args.section.now c.args.materials.now _ c.requires) (squared c.args.self.now)) tt
+pub overflow_add-result : goal.overflow_add-result
+overflow_add-result c = fits (plus (bent c.args.section.now c.args.materials.now _ c.requires) (squared c.args.self.now)) tt
 
-pub overflow-mul-result-8 : goal.overflow-mul-result-8
-overflow-mul-result-8 c = fits (pulled c.args.section.now c.args.materials.now c.args.self.now) tt
+pub overflow_mul-result-8 : goal.overflow_mul-result-8
+overflow_mul-result-8 c = fits (pulled c.args.section.now c.args.materials.now c.args.self.now) tt
 
-pub overflow-mul-result-9 : goal.overflow-mul-result-9
-overflow-mul-result-9 c = fits (times (pulled c.args.section.now c.args.materials.now c.args.self.now) (d_of c.args.self.now)) tt
+pub overflow_mul-result-9 : goal.overflow_mul-result-9
+overflow_mul-result-9 c = fits (times (pulled c.args.section.now c.args.materials.now c.args.self.now) (d_of c.args.self.now)) tt

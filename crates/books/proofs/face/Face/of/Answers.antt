@@ -3,11 +3,9 @@ use Rattle.std.proofs.lemmas.Nat.{mul-le}
 use Rattle.books.specs.Numbers.{q_of}
 use Rattle.books.proofs.face.Face.of.Goals as goal
 
-pub invariant-of-result : goal.invariant-of-result
-invariant-of-result c = (
-  (c.thickness-of.ensures.small, c.area-area.ensures.bounded, mul-le _ _ 12072 42 (omega arith) (omega arith), c.depth-of.ensures.small),
-  tt,
-)
+pub invariant_of-result : goal.invariant_of-result
+invariant_of-result c =
+    record { bounded = (c.thickness_of.ensures.small, c.area-area.ensures.bounded, mul-le _ _ 12072 42 (omega arith) (omega arith), c.depth_of.ensures.small) }
 
 pub returns : goal.returns
 unfolding q_of

@@ -17,7 +17,7 @@ divisor s m = omega (arith, (times (times (lit 680) (f_of m)) (b_of s)).le)
 bracket : (s : Section) (m : Materials) (x : Face) → 17 * m.concrete * s.width * x.depth - 12500 * x.force ≤ 50265600000
 bracket s m x = omega (arith, (times (times (times (lit 17) (f_of m)) (b_of s)) (d_of x)).le)
 
-held : (c : goal.After-saturating-sub-bracket) → c.saturating-sub-bracket.result ≤ 50265600000
+held : (c : goal.After-saturating_sub-bracket) → c.saturating_sub-bracket.result ≤ 50265600000
 held c = omega (arith, bracket c.args.section.now c.args.materials.now c.args.self.now)
 
 abbrev dividend : (x : Face) (k : ℕ) → k ≤ 50265600000 → Bound (5 * x.force * k)
@@ -26,17 +26,17 @@ dividend x k h = times (times (lit 5) (q_of x)) (upto 50265600000 h)
 quotient : (n w : ℕ) → n ≤ 5 * 507024 * 50265600000 → 30600000 ≤ w → (n + (w - 1)) / w ≤ 5000000000
 quotient n w h k = omega (arith, div_below (n + (w - 1)) w 5000000001 (omega arith) (omega arith))
 
-pub overflow-mul-result-2 : goal.overflow-mul-result-2
-overflow-mul-result-2 c = fits (dividend c.args.self.now _ (held c)) tt
+pub overflow_mul-result-2 : goal.overflow_mul-result-2
+overflow_mul-result-2 c = fits (dividend c.args.self.now _ (held c)) tt
 
-pub overflow-sub-result : goal.overflow-sub-result
-overflow-sub-result c = omega (arith, wide c.args.section.now c.args.materials.now)
+pub overflow_sub-result : goal.overflow_sub-result
+overflow_sub-result c = omega (arith, wide c.args.section.now c.args.materials.now)
 
-pub overflow-add-result : goal.overflow-add-result
-overflow-add-result c = fits (plus (dividend c.args.self.now _ (held c)) (upto 228480000 (divisor c.args.section.now c.args.materials.now))) tt
+pub overflow_add-result : goal.overflow_add-result
+overflow_add-result c = fits (plus (dividend c.args.self.now _ (held c)) (upto 228480000 (divisor c.args.section.now c.args.materials.now))) tt
 
-pub nonzero-div-result : goal.nonzero-div-result
-nonzero-div-result c = omega (arith, wide c.args.section.now c.args.materials.now)
+pub nonzero_div-result : goal.nonzero_div-result
+nonzero_div-result c = omega (arith, wide c.args.section.now c.args.materials.now)
 
 pub returns : goal.returns
 unfolding probable_moment

@@ -7,7 +7,7 @@ pub returns : goal.returns
 unfolding general_answer articles_for
 returns c =
     record {
-      answers-its-meaning = c.first-broken-of.ensures;
-      passes-exactly-when-every-article-holds = passes (articles_for c.args.beam.now c.args.cage.now) _ refl c.first-broken-of.ensures;
-      refusal-names-the-first-broken-article = refuses (articles_for c.args.beam.now c.args.cage.now) _ refl c.first-broken-of.ensures;
+      answers_its_meaning = c.first_broken_of.ensures;
+      passes_exactly_when_every_article_holds = passes (articles_for c.args.beam.now c.args.cage.now) _ refl c.first_broken_of.ensures;
+      refusal_names_the_first_broken_article = refuses (articles_for c.args.beam.now c.args.cage.now) _ refl c.first_broken_of.ensures;
     }

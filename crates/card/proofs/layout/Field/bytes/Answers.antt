@@ -5,5 +5,5 @@ use Rattle.card.proofs.layout.Field.bytes.Goals as goal
 
 pub returns : goal.returns
 returns c =
-    let e = c.bytes-of.ensures.is ∙ ap size c.bit.ensures.is ∙ field_size c.args.self in
+    let e = c.bytes_of.ensures.is ∙ ap size c.bit.ensures.is ∙ field_size c.args.self in
     record { is = e; one_or_two = rw e (one_or_two c.args.self) }

@@ -1,4 +1,4 @@
-use Rattle.std.proofs.Common.{◌≡◌, List, [], ◌∷◌, ℤ, refl, arith}
+use Rattle.std.proofs.Common.{◌≡◌, List, ◌∷◌, ℤ, refl, arith}
 use Rattle.std.proofs.lemmas.Int.{ints}
 use Rattle.loads.specs.Combinations.{rows}
 use Rattle.loads.proofs.actions.combinations.combined.Goals as goal

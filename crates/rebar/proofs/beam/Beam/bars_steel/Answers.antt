@@ -5,4 +5,4 @@ use Rattle.rebar.proofs.beam.Beam.bars_steel.Goals as goal
 
 pub returns : goal.returns
 unfolding bars_steel
-returns c = record { steel-of-the-bars = cc; bounded = mul-le _ _ 12000 12072 (omega arith) (omega arith) }
+returns c = record { steel_of_the_bars = cc; bounded = mul-le _ _ 12000 12072 (omega arith) (omega arith) }

@@ -5,4 +5,4 @@ use Rattle.rebar.proofs.cage.Bars.area.Goals as goal
 
 pub returns : goal.returns
 unfolding face_area
-returns c = record { area-of-the-face = cc; bounded = mul-le _ _ 12 1006 (omega arith) (omega arith) }
+returns c = record { area_of_the_face = cc; bounded = mul-le _ _ 12 1006 (omega arith) (omega arith) }

@@ -7,6 +7,6 @@ pub returns : goal.returns
 unfolding block_factor_of
 returns c =
     record {
-      factor-of-the-grade = ap (λ k. get_or block_factors k 0) c.grade.ensures.is;
+      factor_of_the_grade = ap (λ k. get_or block_factors k 0) c.grade.ensures.is;
       bounded = below 85 block_factors tt c.grade.result (omega arith);
     }

@@ -22,6 +22,6 @@ pub returns-in-350 : goal.returns-in-350
 unfolding grade_place
 returns-in-350 c = search rules
 
-pub returns-in-default : goal.returns-in-default
+pub returns-in_default : goal.returns-in_default
 unfolding is_concrete grade_place
-returns-in-default c = search rules
+returns-in_default c = search rules

@@ -8,7 +8,7 @@ unfolding least_ratio_of
 returns-then-self-eq2800 c =
     let h = eq-eqb _ _ c.if-self-eq2800.true in
     record {
-      ratio-of-the-grades = rw h (ap (λ k. get_or least_ratios_2800 k 0) c.grade.ensures.is);
+      ratio_of_the_grades = rw h (ap (λ k. get_or least_ratios_2800 k 0) c.grade.ensures.is);
       bounded = below 44 least_ratios_2800 tt c.grade.result (omega arith);
     }
 
@@ -17,6 +17,6 @@ unfolding least_ratio_of
 returns-else-self-eq2800 c =
     let h = ne_eqb _ _ c.if-self-eq2800.false in
     record {
-      ratio-of-the-grades = rw h (ap (λ k. get_or least_ratios_4200 k 0) c.grade-else-self-eq2800.ensures.is);
+      ratio_of_the_grades = rw h (ap (λ k. get_or least_ratios_4200 k 0) c.grade-else-self-eq2800.ensures.is);
       bounded = below 44 least_ratios_4200 tt c.grade-else-self-eq2800.result (omega arith);
     }

@@ -1,4 +1,4 @@
-use Rattle.std.proofs.Common.{◌≡◌, ◌<◌, get_or, ap, arith}
+use Rattle.std.proofs.Common.{◌<◌, get_or, ap, arith}
 use Rattle.rebar.specs.Grades.{grade_place, root_of, roots}
 use Rattle.rebar.proofs.Roots.{root_fits}
 use Rattle.rebar.proofs.Table.{below}
@@ -11,7 +11,7 @@ returns c =
     let is = ap (λ k. get_or roots k 0) c.grade.ensures.is in
     let within : grade_place c.args.self.now.concrete < 6 = omega arith in
     record {
-      root-of-the-grade = is;
-      square-just-below = root_fits _ _ made within is;
+      root_of_the_grade = is;
+      square_just_below = root_fits _ _ made within is;
       bounded = below 20493 roots tt c.grade.result (omega arith);
     }

@@ -4,9 +4,9 @@ use Rattle.sheet.proofs.sheet.Sheet.design.Goals as goal
 pub returns : goal.returns
 returns g c =
     record {
-      keeps-the-pile = search rules;
-      lightest-stored-or-nothing-changed = (
+      keeps_the_pile = search rules;
+      lightest_stored_or_nothing_changed = (
         search rules,
-        (c.in-Some.beam, (c.design-decision.result, (search rules, c.design-decision.ensures.lightest-or-none, c.settle.ensures))),
+        (c.in-Some.beam, (c.design-decision.result, (search rules, c.design-decision.ensures.lightest_or_none, c.settle.ensures))),
       );
     }

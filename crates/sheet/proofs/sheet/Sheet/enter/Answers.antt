@@ -4,6 +4,6 @@ use Rattle.sheet.proofs.sheet.Sheet.enter.Goals as goal
 pub returns : goal.returns
 returns g c =
     record {
-      keeps-the-pile = search rules;
-      beam-open-or-nothing-changed = (search rules, (c.in-ok-beam.beam, (c.in-ok-beam.ensures.beam-or-fault, search rules)));
+      keeps_the_pile = search rules;
+      beam_open_or_nothing_changed = (search rules, (c.in_ok-beam.beam, (c.in_ok-beam.ensures.beam_or_fault, search rules)));
     }

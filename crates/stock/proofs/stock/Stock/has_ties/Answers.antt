@@ -5,4 +5,4 @@ use Rattle.stock.proofs.stock.Stock.has_ties.Goals as goal
 pub returns : goal.returns
 returns c =
     let mark = c.args.ties.now.mark in
-    record { whether-the-mark-is-in = in_row c.args.self.now mark refl (known_tie mark (omega arith) (omega arith)) }
+    record { whether_the_mark_is_in = in_row c.args.self.now mark refl (known_tie mark (omega arith) (omega arith)) }

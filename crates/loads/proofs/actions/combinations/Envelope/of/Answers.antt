@@ -5,10 +5,10 @@ use Rattle.loads.proofs.actions.combinations.Envelope.of.Goals as goal
 pub returns : goal.returns
 returns c =
     record {
-      most-moment = cc;
-      least-moment = cc;
-      most-shear = cc;
-      least-shear = cc;
-      most-gravity = grind (arith, take-map);
-      least-gravity = grind (arith, take-map);
+      most_moment = cc;
+      least_moment = cc;
+      most_shear = cc;
+      least_shear = cc;
+      most_gravity = grind (arith, take-map);
+      least_gravity = grind (arith, take-map);
     }
