@@ -1,6 +1,6 @@
 -- The numbers of a card in byte order: a bad value is reported at the first of them that is out of range.
 use Rattle.std.specs.Prelude.{◌≡◌, ℕ, ◌+◌, Bool, true, false, cond, ◌⊎◌, List, [], ◌∷◌, ◌++◌, Some, Ok, Err, Result}
-use Rattle.std.specs.List.{AllByRecursion as All}
+use Rattle.std.specs.List.{AllByRecursion}
 use Rattle.rebar.specs.declared.beam.Beam.{Beam}
 use Rattle.card.specs.declared.fault.Fault.{Fault}
 use Rattle.card.specs.declared.fault.FaultKind.TheVariants.{OutOfRange}
@@ -55,7 +55,7 @@ numbers least map rest =
 
 -- every number is in range
 abbrev pub AllFine : List Number → Type 0
-AllFine ns = All (λ n. n.fine ≡ true) ns
+AllFine ns = AllByRecursion (λ n. n.fine ≡ true) ns
 
 -- a fault that names the first number out of range
 pub record FirstBad (ns : List Number) (e : Fault) : Type 0 where

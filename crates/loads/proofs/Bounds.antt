@@ -1,6 +1,6 @@
 -- No combination of loads within their ranges passes 3,800,000, and none of dead and live load alone 2,800,000.
 use Rattle.std.proofs.Common.{◌≡◌, ℕ, ◌≤◌, max, List, map, ℤ, pos, negsuc, neg_ℤ, nat_abs, ◌≤ℤ◌, arith}
-use Rattle.std.specs.List.{AllByRecursion as All}
+use Rattle.std.specs.List.{AllByRecursion}
 use Rattle.std.proofs.lemmas.Int.{ints}
 use Rattle.std.proofs.ByRecursion.{All-append, All-map, All-weaker}
 use Rattle.loads.specs.declared.loads.Force.{Force}
@@ -14,7 +14,7 @@ pub record Within (k : ℕ) (z : ℤ) : Type 0 where
   pub high : z ≤ℤ pos k
 
 module _ (d l w e : ℤ) (hd : Within 100000 d) (hl : Within 100000 l) (hw : Within 100000 w) (he : Within 100000 e) where
-  pub all_rows : All (Within 3800000) (map (weighted d l w e) rows)
+  pub all_rows : AllByRecursion (Within 3800000) (map (weighted d l w e) rows)
   unfolding rows
   all_rows = (
     record { low = omega (arith, ints); high = omega (arith, ints) },
@@ -45,17 +45,17 @@ module _ (d l w e : ℤ) (hd : Within 100000 d) (hl : Within 100000 l) (hw : Wit
     ),
   )
 
-  pub gravity_alone : All (Within 2800000) (map (weighted d l w e) gravity_rows)
+  pub gravity_alone : AllByRecursion (Within 2800000) (map (weighted d l w e) gravity_rows)
   unfolding rows
   gravity_alone = (record { low = omega (arith, ints); high = omega (arith, ints) }, (record { low = omega (arith, ints); high = omega (arith, ints) }, tt))
 
 -- the same of every station
 module _ (k : ℕ) (some : List Row) (effect : Force → ℤ) (mild : (f : Force) → Within 100000 (effect f))
-    (each : (d l w e : ℤ) → Within 100000 d → Within 100000 l → Within 100000 w → Within 100000 e → All (Within k) (map (weighted d l w e) some)) where
-  at : (loads : Loads) (place : Case → Force) → All (Within k) (at_station effect some loads place)
+    (each : (d l w e : ℤ) → Within 100000 d → Within 100000 l → Within 100000 w → Within 100000 e → AllByRecursion (Within k) (map (weighted d l w e) some)) where
+  at : (loads : Loads) (place : Case → Force) → AllByRecursion (Within k) (at_station effect some loads place)
   at loads place = each _ _ _ _ (mild (place loads.dead)) (mild (place loads.live)) (mild (place loads.wind)) (mild (place loads.earthquake))
 
-  pub everywhere : (loads : Loads) → All (Within k) (combinations effect some loads)
+  pub everywhere : (loads : Loads) → AllByRecursion (Within k) (combinations effect some loads)
   everywhere loads =
       All-append (Within k) _ _ (at loads (λ c. c.left)) (All-append (Within k) _ _ (at loads (λ c. c.mid)) (at loads (λ c. c.right)))
 
@@ -65,13 +65,13 @@ bend f = record { low = f.bends.0; high = f.bends.1 }
 cut : (f : Force) → Within 100000 f.shear
 cut f = record { low = f.cuts.0; high = f.cuts.1 }
 
-pub moments_within : (loads : Loads) → All (Within 3800000) (moments loads)
+pub moments_within : (loads : Loads) → AllByRecursion (Within 3800000) (moments loads)
 moments_within = everywhere 3800000 rows (λ f. f.moment) bend all_rows
 
-pub shears_within : (loads : Loads) → All (Within 3800000) (shears loads)
+pub shears_within : (loads : Loads) → AllByRecursion (Within 3800000) (shears loads)
 shears_within = everywhere 3800000 rows (λ f. f.shear) cut all_rows
 
-pub gravity_within : (loads : Loads) → All (Within 2800000) (gravity_shears loads)
+pub gravity_within : (loads : Loads) → AllByRecursion (Within 2800000) (gravity_shears loads)
 gravity_within = everywhere 2800000 gravity_rows (λ f. f.shear) cut gravity_alone
 
 size_within : (k : ℕ) (z : ℤ) → Within k z → unsigned z ≤ℤ pos k
@@ -79,7 +79,7 @@ size_within k (pos n) h = omega (arith, ints)
 size_within k (negsuc n) h = omega (arith, ints)
 
 -- so the greatest of them, of their negatives and of their sizes is within the same bound
-module _ (k : ℕ) (xs : List ℤ) (all : All (Within k) xs) (r : ℕ) where
+module _ (k : ℕ) (xs : List ℤ) (all : AllByRecursion (Within k) xs) (r : ℕ) where
   pub greatest_within : pos r ≡ greatest xs → r ≤ k
   greatest_within = bounded k xs r (All-weaker (Within k) (λ x. x ≤ℤ pos k) (λ z h. h.high) xs all)
 

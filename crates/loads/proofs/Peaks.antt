@@ -3,7 +3,7 @@ use Rattle.std.proofs.Common.{◌≡◌, ℕ, ◌≤◌, max, ◌⊎◌, List, [
 use Rattle.std.specs.Int.{int_max, int_min}
 use Rattle.std.proofs.lemmas.Int.{ints, clamps}
 use Rattle.std.proofs.ByRecursion.{folded_max_z_bounds, folded_max_z_reached, all-has}
-use Rattle.std.specs.List.{ContainsAt as Has, AllByRecursion as All}
+use Rattle.std.specs.List.{ContainsAt, AllByRecursion}
 use Rattle.loads.specs.Combinations.{greatest, least, unsigned}
 use Rattle.loads.specs.Actions.{Peak}
 
@@ -68,14 +68,14 @@ whole_size r y z xs s e f =
 pub peak : (xs : List ℤ) (r : ℕ) → pos r ≡ greatest xs → Peak xs r
 peak xs r e = record { most = (folded_max_z_bounds (pos 0) xs (pos r) e).1; met = reached (folded_max_z_reached (pos 0) xs (pos r) e) }
   where
-    reached : (pos r ≡ pos 0) ⊎ Has xs (pos r) → (r ≡ 0) ⊎ Has xs (pos r)
+    reached : (pos r ≡ pos 0) ⊎ ContainsAt xs (pos r) → (r ≡ 0) ⊎ ContainsAt xs (pos r)
     reached (inl z) = inl (cc)
     reached (inr h) = inr h
 
 -- what is reached by numbers within a bound is within it
-pub bounded : (k : ℕ) (xs : List ℤ) (r : ℕ) → All (λ x. x ≤ℤ pos k) xs → pos r ≡ greatest xs → r ≤ k
+pub bounded : (k : ℕ) (xs : List ℤ) (r : ℕ) → AllByRecursion (λ x. x ≤ℤ pos k) xs → pos r ≡ greatest xs → r ≤ k
 bounded k xs r all e = within (peak xs r e).met
   where
-    within : (r ≡ 0) ⊎ Has xs (pos r) → r ≤ k
+    within : (r ≡ 0) ⊎ ContainsAt xs (pos r) → r ≤ k
     within (inl z) = omega arith
     within (inr h) = omega (arith, ints, all-has (λ x. x ≤ℤ pos k) xs (pos r) all h)
