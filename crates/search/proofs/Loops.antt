@@ -11,7 +11,8 @@ use Rattle.search.specs.declared.decision.Decision.{Decision}
 use Rattle.search.specs.declared.decision.Decision.TheVariants.{Chosen, Impossible}
 use Rattle.search.specs.Lightest.{FromStock, Lightest}
 use Rattle.search.specs.Search.{MainIn, TieIn, Covers, Sound, Step, Listed, Done, OfPair, bars_place, ties_place}
-use Rattle.search.proofs.Same.{same_cage, same_bars_place, same_ties_place}
+use Rattle.rebar.proofs.Same.{same_cage}
+use Rattle.search.proofs.Same.{same_bars_place, same_ties_place}
 use Rattle.search.proofs.Steps.{step_refl, step_trans}
 
 -- a loop over the cages of which P holds, by their place

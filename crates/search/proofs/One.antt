@@ -7,7 +7,8 @@ use Rattle.stock.specs.declared.kind.Kind.{Kind}
 use Rattle.search.specs.declared.decision.Decision.{Decision}
 use Rattle.search.specs.declared.decision.Decision.TheVariants.{Chosen, Impossible}
 use Rattle.search.specs.Lightest.{Better, Lightest}
-use Rattle.search.proofs.Same.{same_bars, same_ties, same_cage, same_choice}
+use Rattle.rebar.proofs.Same.{same_bars, same_ties, same_cage}
+use Rattle.search.proofs.Same.{same_choice}
 
 -- where neither of two lists comes before the other, the first numbers are equal, and neither rest comes before the other
 level : {P Q : Type 0} (x y : ℕ) → ((x < y) ⊎ ((x ≡ y) × P) → ⊥) → ((y < x) ⊎ ((y ≡ x) × Q) → ⊥) → (x ≡ y) × (P → ⊥) × (Q → ⊥)
