@@ -1,12 +1,12 @@
-ghost use Rattle.std.specs.Prelude.{pos, negsuc, ◌≤ℤ◌};
+ghost use Rattle.loads.specs.Effects.{Moderate};
 
 // A moment in kg·m and a shear in kg, each from -100,000 to 100,000.
 #[derive(Clone, Copy)]
 pub struct Force {
     pub moment: i32,
     pub shear: i32,
-    ghost bends: { (negsuc 99999 ≤ℤ moment) × (moment ≤ℤ pos 100000) },
-    ghost cuts: { (negsuc 99999 ≤ℤ shear) × (shear ≤ℤ pos 100000) },
+    ghost bends: { Moderate moment },
+    ghost cuts: { Moderate shear },
 }
 
 // What one load case does at the left face, at midspan and at the right face.

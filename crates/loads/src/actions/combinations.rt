@@ -1,5 +1,6 @@
-ghost use Rattle.std.specs.Prelude.{◌≡◌, max, ◌++◌, map, pos, negsuc, ◌+ℤ◌, ◌*ℤ◌, ◌≤ℤ◌, fold, unsigned_abs};
+ghost use Rattle.std.specs.Prelude.{◌≡◌, max, ◌++◌, map, pos, ◌+ℤ◌, ◌*ℤ◌, fold, unsigned_abs};
 ghost use Rattle.std.specs.Int.{int_max, int_min};
+ghost use Rattle.loads.specs.Effects.{Moderate};
 ghost use Rattle.loads.specs.Combinations.{weighted, rows, moments, shears, gravity_shears, greatest, least};
 ghost use Rattle.loads.specs.Actions.{ActionsOf, Peaks};
 
@@ -57,37 +58,43 @@ impl Extremes {
     }
 }
 
-// Dead and live load as they stand in the rows with wind or earthquake.
-fn gravity_part(dead: i32, live: i32) -> i32
-    requires dead { (negsuc 99999 ≤ℤ dead) × (dead ≤ℤ pos 100000) }
-    requires live { (negsuc 99999 ≤ℤ live) × (live ≤ℤ pos 100000) }
-    ensures { result ≡ pos 12 *ℤ dead +ℤ pos 10 *ℤ live }
-{
-    12 * dead + 10 * live
+// One effect, a moment or a shear, of the four load cases at one station.
+#[derive(Clone, Copy)]
+struct Effect {
+    dead: i32,
+    live: i32,
+    wind: i32,
+    earthquake: i32,
+    ghost bounded: { Moderate dead × Moderate live × Moderate wind × Moderate earthquake },
 }
 
-// The ten combinations of one effect of the four cases.
-fn combined(dead: i32, live: i32, wind: i32, earthquake: i32) -> [i32; 10]
-    requires dead { (negsuc 99999 ≤ℤ dead) × (dead ≤ℤ pos 100000) }
-    requires live { (negsuc 99999 ≤ℤ live) × (live ≤ℤ pos 100000) }
-    requires wind { (negsuc 99999 ≤ℤ wind) × (wind ≤ℤ pos 100000) }
-    requires earthquake { (negsuc 99999 ≤ℤ earthquake) × (earthquake ≤ℤ pos 100000) }
-    ensures { result ≡ map (weighted dead live wind earthquake) rows }
-{
-    let full = gravity_part(dead, live);
-    let light = 9 * dead;
-    [
-        14 * dead,
-        12 * dead + 16 * live,
-        full + 16 * wind,
-        full + -16 * wind,
-        full + 10 * earthquake,
-        full + -10 * earthquake,
-        light + 16 * wind,
-        light + -16 * wind,
-        light + 10 * earthquake,
-        light + -10 * earthquake,
-    ]
+impl Effect {
+    // Dead and live load as they stand in the rows with wind or earthquake.
+    fn gravity_part(&self) -> i32
+        ensures { result ≡ pos 12 *ℤ self.now.dead +ℤ pos 10 *ℤ self.now.live }
+    {
+        12 * self.dead + 10 * self.live
+    }
+
+    // The ten combinations of the effect.
+    fn combined(&self) -> [i32; 10]
+        ensures { result ≡ map (weighted self.now.dead self.now.live self.now.wind self.now.earthquake) rows }
+    {
+        let full = self.gravity_part();
+        let light = 9 * self.dead;
+        [
+            14 * self.dead,
+            12 * self.dead + 16 * self.live,
+            full + 16 * self.wind,
+            full + -16 * self.wind,
+            full + 10 * self.earthquake,
+            full + -10 * self.earthquake,
+            light + 16 * self.wind,
+            light + -16 * self.wind,
+            light + 10 * self.earthquake,
+            light + -10 * self.earthquake,
+        ]
+    }
 }
 
 // The ten combinations of the moments and of the shears at one station.
@@ -102,9 +109,21 @@ impl Station {
         ensures moments { result.moments ≡ map (weighted dead.now.moment live.now.moment wind.now.moment earthquake.now.moment) rows }
         ensures shears { result.shears ≡ map (weighted dead.now.shear live.now.shear wind.now.shear earthquake.now.shear) rows }
     {
+        let moments = Effect {
+            dead: dead.moment,
+            live: live.moment,
+            wind: wind.moment,
+            earthquake: earthquake.moment,
+        };
+        let shears = Effect {
+            dead: dead.shear,
+            live: live.shear,
+            wind: wind.shear,
+            earthquake: earthquake.shear,
+        };
         Station {
-            moments: combined(dead.moment, live.moment, wind.moment, earthquake.moment),
-            shears: combined(dead.shear, live.shear, wind.shear, earthquake.shear),
+            moments: moments.combined(),
+            shears: shears.combined(),
         }
     }
 }
