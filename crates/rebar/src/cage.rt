@@ -5,7 +5,7 @@ pub mod order; // the six numbers of a cage, and the order by them
 mod tie_sizes; // diameter and area of ties
 
 // The bars of one face: their mark, and how many.
-#[derive(Clone, Copy)]
+#[derive(Clone, Copy, Debug, PartialEq, Eq, PartialOrd, Ord)]
 pub struct Bars {
     pub mark: u8,
     pub number: u8,
@@ -14,7 +14,7 @@ pub struct Bars {
 }
 
 // Closed two-leg stirrups: their mark, and their spacing in mm.
-#[derive(Clone, Copy)]
+#[derive(Clone, Copy, Debug, PartialEq, Eq, PartialOrd, Ord)]
 pub struct Ties {
     pub mark: u8,
     pub spacing: u16,
@@ -23,7 +23,7 @@ pub struct Ties {
 }
 
 // A cage: bottom and top bars over the whole clear span, and ties at one spacing.
-#[derive(Clone, Copy)]
+#[derive(Clone, Copy, Debug, PartialEq, Eq, PartialOrd, Ord)]
 pub struct Cage {
     pub bottom: Bars,
     pub top: Bars,

@@ -1,26 +1,60 @@
 ghost use Rattle.std.specs.Prelude.{◌≡◌, ◌≤◌};
 ghost use Rattle.rebar.specs.Marks.{bar_diameter, bar_area};
 
-const DIAMETER: [u32; 9] = [95, 127, 159, 191, 222, 254, 287, 323, 358];
-
-const AREA: [u32; 9] = [71, 129, 199, 284, 387, 510, 645, 819, 1006];
-
-// The diameter of a bar of this mark, in tenths of a mm.
-pub(crate) fn diameter_of(mark: u8) -> u32
-    requires { (3 ≤ mark) × (mark ≤ 11) }
-    ensures is { result ≡ bar_diameter mark }
-    ensures bounded { result ≤ 358 }
-    ensures thin { mark ≤ 5 → result ≤ 159 }
-{
-    DIAMETER[(mark - 3) as usize]
+// What bars of a mark measure: the diameter in tenths of a mm, and the area in mm².
+#[derive(Clone, Copy)]
+pub(crate) struct Size {
+    pub(crate) diameter: u32,
+    pub(crate) area: u32,
 }
 
-// The area of a bar of this mark, in mm².
-pub(crate) fn area_of(mark: u8) -> u32
+// By mark, from 3 to 11.
+const SIZES: [Size; 9] = [
+    Size {
+        diameter: 95,
+        area: 71,
+    },
+    Size {
+        diameter: 127,
+        area: 129,
+    },
+    Size {
+        diameter: 159,
+        area: 199,
+    },
+    Size {
+        diameter: 191,
+        area: 284,
+    },
+    Size {
+        diameter: 222,
+        area: 387,
+    },
+    Size {
+        diameter: 254,
+        area: 510,
+    },
+    Size {
+        diameter: 287,
+        area: 645,
+    },
+    Size {
+        diameter: 323,
+        area: 819,
+    },
+    Size {
+        diameter: 358,
+        area: 1006,
+    },
+];
+
+// What bars of this mark measure.
+pub(crate) fn size_of(mark: u8) -> Size
     requires { (3 ≤ mark) × (mark ≤ 11) }
-    ensures is { result ≡ bar_area mark }
-    ensures bounded { result ≤ 1006 }
-    ensures thin { mark ≤ 5 → result ≤ 199 }
+    ensures diameter { result.diameter ≡ bar_diameter mark }
+    ensures area { result.area ≡ bar_area mark }
+    ensures bounded { (result.diameter ≤ 358) × (result.area ≤ 1006) }
+    ensures thin { mark ≤ 5 → (result.diameter ≤ 159) × (result.area ≤ 199) }
 {
-    AREA[(mark - 3) as usize]
+    SIZES[(mark - 3) as usize]
 }

@@ -1,14 +1,55 @@
 ghost use Rattle.std.specs.Prelude.{◌≡◌, ◌<◌, ◌≤◌, true};
 ghost use Rattle.rebar.specs.Grades.{is_concrete, is_steel, grade_place, root_of, IsRoot, block_factor_of, least_ratio_of};
 
-// What the standards give for each grade of concrete, in the order 180, 210, 240, 280, 350, 420.
-const ROOT: [u32; 6] = [13416, 14491, 15491, 16733, 18708, 20493];
+// What the standards give for a grade of concrete: the root of the grade, the factor of the stress block, and the
+// least ratio of tension steel with each grade of steel.
+#[derive(Clone, Copy)]
+struct Grade {
+    root: u32,
+    block_factor: u32,
+    least_ratio_2800: u32,
+    least_ratio_4200: u32,
+}
 
-const BLOCK_FACTOR: [u32; 6] = [85, 85, 85, 85, 80, 75];
-
-const LEAST_RATIO_2800: [u32; 6] = [29, 31, 33, 36, 40, 44];
-
-const LEAST_RATIO_4200: [u32; 6] = [19, 21, 22, 24, 27, 29];
+// By grade of concrete: 180, 210, 240, 280, 350, 420.
+const GRADES: [Grade; 6] = [
+    Grade {
+        root: 13416,
+        block_factor: 85,
+        least_ratio_2800: 29,
+        least_ratio_4200: 19,
+    },
+    Grade {
+        root: 14491,
+        block_factor: 85,
+        least_ratio_2800: 31,
+        least_ratio_4200: 21,
+    },
+    Grade {
+        root: 15491,
+        block_factor: 85,
+        least_ratio_2800: 33,
+        least_ratio_4200: 22,
+    },
+    Grade {
+        root: 16733,
+        block_factor: 85,
+        least_ratio_2800: 36,
+        least_ratio_4200: 24,
+    },
+    Grade {
+        root: 18708,
+        block_factor: 80,
+        least_ratio_2800: 40,
+        least_ratio_4200: 27,
+    },
+    Grade {
+        root: 20493,
+        block_factor: 75,
+        least_ratio_2800: 44,
+        least_ratio_4200: 29,
+    },
+];
 
 // The grades of concrete and of steel in kg/cm², and the largest size of the aggregate in mm.
 #[derive(Clone, Copy)]
@@ -24,6 +65,7 @@ pub struct Materials {
 }
 
 // Whether there is concrete of this grade.
+#[tactic(auto, unfolding(crate::specs::Grades::is_concrete))]
 pub fn is_concrete(grade: u16) -> bool
     ensures whether_it_is_made { result ≡ is_concrete grade }
 {
@@ -31,14 +73,15 @@ pub fn is_concrete(grade: u16) -> bool
 }
 
 // Whether there is steel of this grade.
+#[tactic(auto, unfolding(crate::specs::Grades::is_steel))]
 pub fn is_steel(grade: u16) -> bool
     ensures whether_it_is_made { result ≡ is_steel grade }
 {
-    grade == 2800 || grade == 4200
+    matches!(grade, 2800 | 4200)
 }
 
 impl Materials {
-    // The place of the concrete grade in the tables.
+    // The place of the concrete grade in the table.
     fn grade(&self) -> usize
         ensures is { result ≡ grade_place self.now.concrete }
         ensures within { result < 6 }
@@ -59,7 +102,7 @@ impl Materials {
         ensures square_just_below { IsRoot self.now.concrete result }
         ensures bounded { result ≤ 20493 }
     {
-        ROOT[self.grade()]
+        GRADES[self.grade()].root
     }
 
     // β, the depth of the stress block over that of the neutral axis, in hundredths.
@@ -67,7 +110,7 @@ impl Materials {
         ensures factor_of_the_grade { result ≡ block_factor_of self.now.concrete }
         ensures bounded { result ≤ 85 }
     {
-        BLOCK_FACTOR[self.grade()]
+        GRADES[self.grade()].block_factor
     }
 
     // ρ, the least ratio of tension steel, in ten-thousandths.
@@ -75,10 +118,11 @@ impl Materials {
         ensures ratio_of_the_grades { result ≡ least_ratio_of self.now.concrete self.now.steel }
         ensures bounded { result ≤ 44 }
     {
+        let grade = &GRADES[self.grade()];
         if self.steel == 2800 {
-            LEAST_RATIO_2800[self.grade()]
+            grade.least_ratio_2800
         } else {
-            LEAST_RATIO_4200[self.grade()]
+            grade.least_ratio_4200
         }
     }
 }

@@ -14,8 +14,9 @@ pub struct Member {
 }
 
 // Whether there is a shear factor of this size.
+#[tactic(auto, unfolding(crate::specs::Grades::is_shear_factor))]
 pub fn is_shear_factor(factor: u16) -> bool
     ensures whether_it_is_used { result ≡ is_shear_factor factor }
 {
-    factor == 60 || factor == 75
+    matches!(factor, 60 | 75)
 }

@@ -2,7 +2,7 @@ ghost use Rattle.std.specs.Prelude.{◌≡◌, ◌≤◌};
 ghost use Rattle.rebar.specs.Marks.{bar_diameter, face_area};
 
 use crate::cage::Bars;
-use crate::marks::{area_of, diameter_of};
+use crate::marks::size_of;
 
 impl Bars {
     // The diameter of one of the bars, in tenths of a mm.
@@ -10,7 +10,7 @@ impl Bars {
         ensures diameter_of_the_mark { result ≡ bar_diameter self.now.mark }
         ensures bounded { result ≤ 358 }
     {
-        diameter_of(self.mark)
+        size_of(self.mark).diameter
     }
 
     // The area of all the bars, in mm².
@@ -18,6 +18,6 @@ impl Bars {
         ensures area_of_the_face { result ≡ face_area self.now }
         ensures bounded { result ≤ 12072 }
     {
-        self.number as u32 * area_of(self.mark)
+        self.number as u32 * size_of(self.mark).area
     }
 }

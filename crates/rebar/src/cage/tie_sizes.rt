@@ -2,7 +2,7 @@ ghost use Rattle.std.specs.Prelude.{◌≡◌, ◌≤◌};
 ghost use Rattle.rebar.specs.Marks.{bar_diameter, bar_area};
 
 use crate::cage::Ties;
-use crate::marks::{area_of, diameter_of};
+use crate::marks::size_of;
 
 impl Ties {
     // The diameter of a tie's bar, in tenths of a mm.
@@ -10,7 +10,7 @@ impl Ties {
         ensures diameter_of_the_mark { result ≡ bar_diameter self.now.mark }
         ensures bounded { result ≤ 159 }
     {
-        diameter_of(self.mark)
+        size_of(self.mark).diameter
     }
 
     // The area of one leg of a tie, in mm².
@@ -18,6 +18,6 @@ impl Ties {
         ensures area_of_the_mark { result ≡ bar_area self.now.mark }
         ensures bounded { result ≤ 199 }
     {
-        area_of(self.mark)
+        size_of(self.mark).area
     }
 }

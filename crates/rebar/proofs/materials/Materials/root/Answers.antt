@@ -1,17 +1,14 @@
-use Rattle.std.proofs.Common.{◌<◌, get_or, ap, arith}
-use Rattle.rebar.specs.Grades.{grade_place, root_of, roots}
+use Rattle.std.proofs.Common.{◌<◌, refl, arith}
+use Rattle.rebar.specs.Grades.{grade_place, root_of}
+use Rattle.rebar.proofs.Grades.{by_grade}
 use Rattle.rebar.proofs.Roots.{root_fits}
-use Rattle.rebar.proofs.Table.{below}
 use Rattle.rebar.proofs.materials.Materials.root.Goals as goal
 
-pub returns : goal.returns
+pub returns-clause-root_of_the_grade : goal.returns-clause-root_of_the_grade
 unfolding root_of
-returns c =
-    let made = c.args.self.now.graded in
-    let is = ap (λ k. get_or roots k 0) c.grade.ensures.is in
+returns-clause-root_of_the_grade c = by_grade (λ g. g.root) refl c.grade.ensures.is
+
+pub returns-clause-square_just_below : goal.returns-clause-square_just_below
+returns-clause-square_just_below c =
     let within : grade_place c.args.self.now.concrete < 6 = omega arith in
-    record {
-      root_of_the_grade = is;
-      square_just_below = root_fits _ _ made within is;
-      bounded = below 20493 roots tt c.grade.result (omega arith);
-    }
+    root_fits _ _ c.args.self.now.graded within (returns-clause-root_of_the_grade c)
