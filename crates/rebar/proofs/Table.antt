@@ -1,6 +1,6 @@
 -- A rule of a table, proved at all of its entries by one test that antt computes, one entry after the other.
 -- Assumes nothing.
-use Rattle.std.proofs.Common.{◌≡◌, refl, map, ℕ, zero, suc, ◌+◌, ◌<◌, Bool, true, false, T, List, [], ◌∷◌, length, get_or, sym, ◌∙◌, subst, le_of_suc-le-suc, not-suc-le-zero, add-zero, add-suc, suc-add, zero-add}
+use Rattle.std.proofs.Common.{◌≡◌, refl, map, ℕ, zero, suc, ◌+◌, ◌<◌, ◌≤◌, Bool, true, false, T, leb, leb→le, List, [], ◌∷◌, length, get_or, sym, ◌∙◌, subst, le_of_suc-le-suc, not-suc-le-zero, add-zero, add-suc, suc-add, zero-add}
 
 abbrev pub both : Bool → Bool → Bool
 both true b = b
@@ -28,6 +28,10 @@ from f (x ∷ xs) i t (suc k) h =
 
 pub at : (f : ℕ → ℕ → Bool) (xs : List ℕ) → T (every f 0 xs) → (k : ℕ) → k < length xs → T (f k (get_or xs k 0))
 at f xs t k h = subst (λ (m : ℕ). T (f m (get_or xs k 0))) (zero-add k) (from f xs 0 t k h)
+
+-- a bound of every entry
+pub below : (most : ℕ) (xs : List ℕ) → T (every (λ k x. leb x most) 0 xs) → (k : ℕ) → k < length xs → get_or xs k 0 ≤ most
+below most xs t k h = leb→le _ _ (at (λ k x. leb x most) xs t k h)
 
 -- a number of the entry at a place is the entry at that place of the list of that number
 pub field_at : {A : Type 0} (f : A → ℕ) (xs : List A) (k : ℕ) (d : A) → f d ≡ 0 → f (get_or xs k d) ≡ get_or (map f xs) k 0
