@@ -1,3 +1,4 @@
+pub mod Refusals
 pub mod Text
 pub mod Bill
 pub mod Steps

@@ -8,14 +8,8 @@ use Rattle.bill.specs.Bill.{line_text, total_text, head_text}
 use Rattle.bill.specs.declared.bill.Begun.{Begun}
 use Rattle.bill.specs.declared.bill.Refused.{Refused}
 use Rattle.bill.specs.declared.bill.Totalled.{Totalled}
-use Rattle.bill.specs.declared.bill.Refusal.{Refusal}
-use Rattle.bill.specs.declared.bill.Refusal.TheVariants.{PageShort, NotChosen, Full}
-
--- the numbers of a bill's refusals
-abbrev pub refusal_number : Refusal → ℕ
-refusal_number PageShort = 11
-refusal_number NotChosen = 12
-refusal_number Full = 13
+use Rattle.bill.specs.declared.refusal.Refusal.{Refusal}
+use Rattle.bill.specs.declared.refusal.Refusal.TheVariants.{PageShort, NotChosen, Full}
 
 -- refused where the page is shorter than the bytes so far, w of them, and the new ones together
 abbrev pub short : List ℕ → ℕ → List ℕ → Option Refusal
@@ -31,6 +25,11 @@ why_line b page place (Impossible n) = Some NotChosen
 -- bs was put on the page after the bytes so far, w of them, and there are v bytes now
 abbrev pub Puts : List ℕ → ℕ → List ℕ → ℕ → List ℕ → Type 0
 Puts page w bs v page' = (page' ≡ put page w bs) × (v ≡ w + length bs)
+
+-- bs is on the page after the bytes so far, w of them; or the page is short, and no byte of it has changed
+abbrev pub AppendedAs : List ℕ → ℕ → List ℕ → Result ℕ Refusal → List ℕ → Type 0
+AppendedAs page w bs (Ok v) page' = (short page w bs ≡ None) × Puts page w bs v page'
+AppendedAs page w bs (Err e) page' = (short page w bs ≡ Some e) × (page' ≡ page)
 
 -- a line was added
 abbrev pub Added : Begun → List ℕ → ℕ → Shown → Begun → List ℕ → Type 0

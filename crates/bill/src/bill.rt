@@ -1,14 +1,8 @@
 ghost use Rattle.std.specs.Prelude.{◌*◌, ◌≤◌};
 
-mod steps; // begin, line, total, tear
+use crate::refusal::Refusal;
 
-// Why a step is refused.
-#[derive(Clone, Copy)]
-pub enum Refusal {
-    PageShort,
-    NotChosen,
-    Full,
-}
+mod steps; // begin, line, total, tear
 
 // A bill that takes lines: the bytes written, the lines and their summed steel. It can't be let go: it ends by
 // `total` or by `tear`.

@@ -1,33 +1,34 @@
-ghost use Rattle.std.specs.Prelude.{◌≡◌, ◌+◌, not, length, nat_lt};
-ghost use Rattle.bill.specs.Steps.{BegunAs, LineAs, TotalAs, refusal_number};
+ghost use Rattle.std.specs.Prelude.{◌≡◌};
+ghost use Rattle.bill.specs.Steps.{BegunAs, LineAs, TotalAs};
 
-use crate::bill::{Begun, Refusal, Refused, Totalled};
-use crate::line::put_on;
+use crate::bill::{Begun, Refused, Totalled};
+use crate::page::append;
+use crate::refusal::Refusal;
 use crate::words::{line_of, total_of};
 use sheet::reading::{Reading, Shown};
-
-// Whether `more` bytes fit on the page after the first `written`.
-fn fits(page: &[u8], written: usize, more: usize) -> bool
-    ensures { result ≡ not (nat_lt (length page.now) (written + more)) }
-{
-    page.len() >= written && page.len() - written >= more
-}
 
 impl Begun {
     // Begins a bill at the front of the page.
     pub fn begin(page: &mut [u8]) -> Result<Begun, Refusal>
         ensures head_on_the_page_or_refused { BegunAs page.old result page.new }
     {
-        let head = b"CAGES\n";
-        if page.len() < head.len() {
-            return Err(Refusal::PageShort);
-        }
-        put_on(page, 0, head);
+        let written = append(page, 0, b"CAGES\n")?;
         Ok(Begun {
-            written: head.len(),
+            written,
             lines: 0,
             steel: 0,
         })
+    }
+
+    // The bill handed back.
+    fn refused(self, refusal: Refusal) -> Refused
+        ensures bill { result.bill ≡ self }
+        ensures refusal { result.refusal ≡ refusal }
+    {
+        Refused {
+            bill: self,
+            refusal,
+        }
     }
 
     // One line more, for a place that shows a chosen cage.
@@ -35,36 +36,27 @@ impl Begun {
         ensures line_on_the_page_or_handed_back { LineAs self page.old reading.now result page.new }
     {
         let Shown::Chosen(choice) = &reading.shown else {
-            return Err(Refused {
-                bill: self,
-                refusal: Refusal::NotChosen,
-            });
+            return Err(self.refused(Refusal::NotChosen));
         };
         if self.lines >= 64 {
-            return Err(Refused {
-                bill: self,
-                refusal: Refusal::Full,
-            });
+            return Err(self.refused(Refusal::Full));
         }
         let line = line_of(reading.place, choice);
-        let bytes = line.as_slice();
-        if !fits(page, self.written, bytes.len()) {
-            return Err(Refused {
-                bill: self,
-                refusal: Refusal::PageShort,
-            });
+        match append(page, self.written, line.as_str().as_bytes()) {
+            Err(refusal) => Err(self.refused(refusal)),
+            Ok(written) => {
+                let Begun {
+                    written: _,
+                    lines,
+                    steel,
+                } = self;
+                Ok(Begun {
+                    written,
+                    lines: lines + 1,
+                    steel: steel + choice.steel as u64,
+                })
+            }
         }
-        put_on(page, self.written, bytes);
-        let Begun {
-            written,
-            lines,
-            steel,
-        } = self;
-        Ok(Begun {
-            written: written + bytes.len(),
-            lines: lines + 1,
-            steel: steel + choice.steel as u64,
-        })
     }
 
     // The last line: how many cages, and their steel together.
@@ -72,22 +64,13 @@ impl Begun {
         ensures total_on_the_page_or_handed_back { TotalAs self page.old result page.new }
     {
         let line = total_of(self.lines, self.steel);
-        let bytes = line.as_slice();
-        if !fits(page, self.written, bytes.len()) {
-            return Err(Refused {
-                bill: self,
-                refusal: Refusal::PageShort,
-            });
+        match append(page, self.written, line.as_str().as_bytes()) {
+            Err(refusal) => Err(self.refused(refusal)),
+            Ok(written) => {
+                self.tear();
+                Ok(Totalled { written })
+            }
         }
-        put_on(page, self.written, bytes);
-        let Begun {
-            written,
-            lines: _,
-            steel: _,
-        } = self;
-        Ok(Totalled {
-            written: written + bytes.len(),
-        })
     }
 
     // Ends a bill with no total, and says how many bytes it has written.
@@ -109,18 +92,5 @@ impl Begun {
     {
         let Begun { written, .. } = self;
         *written
-    }
-}
-
-impl Refusal {
-    // The number under which the refusal is reported.
-    pub fn number(self) -> u8
-        ensures number_of_the_refusal { result ≡ refusal_number self }
-    {
-        match self {
-            Refusal::PageShort => 11,
-            Refusal::NotChosen => 12,
-            Refusal::Full => 13,
-        }
     }
 }
