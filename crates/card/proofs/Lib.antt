@@ -2,5 +2,4 @@ pub mod Rows
 pub mod Offsets
 pub mod Fields
 pub mod Cases
-pub mod Whole
 pub mod First

@@ -1,5 +1,5 @@
 -- How a card is laid out: its fields in the order of their bits.
-use Rattle.std.specs.Prelude.{ℕ, Bool, ◌&&◌, List, [], ◌∷◌, ◌++◌, map, nat_le, slice_index}
+use Rattle.std.specs.Prelude.{◌≡◌, ℕ, Bool, ◌&&◌, List, [], ◌∷◌, ◌++◌, map, nat_le, slice_index, refl}
 use Rattle.rebar.specs.Grades.{is_concrete, is_steel, is_shear_factor}
 use Rattle.card.specs.declared.layout.Field.{Field}
 use Rattle.card.specs.declared.layout.Field.TheVariants.{Width, Height, Cover, Concrete, Steel, Aggregate, Frame, Span, ShearFactor}
@@ -51,6 +51,26 @@ sizes =
 
 unfoldable pub size : ℕ → ℕ
 size bit = slice_index sizes bit
+
+-- the bytes of a field's row are those that the list of sizes has at its bit
+pub field_size : (f : Field) → size (layout f).bit ≡ (layout f).bytes
+unfolding size
+field_size Width = refl
+field_size Height = refl
+field_size Cover = refl
+field_size Concrete = refl
+field_size Steel = refl
+field_size Aggregate = refl
+field_size Frame = refl
+field_size Span = refl
+field_size ShearFactor = refl
+
+pub case_size : (case : LoadCase) → size (load_bit case) ≡ 24
+unfolding size
+case_size Dead = refl
+case_size Live = refl
+case_size Wind = refl
+case_size Earthquake = refl
 
 -- the least cover, in mm
 abbrev pub least_cover : ℕ

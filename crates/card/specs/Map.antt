@@ -1,5 +1,5 @@
 -- The map of a card: which fields stand, and where each begins.
-use Rattle.std.specs.Prelude.{ℕ, zero, suc, ◌+◌, ◌/◌, ◌%◌, ◌^◌, Bool, cond, ◌&&◌, ◌==◌, nat_le}
+use Rattle.std.specs.Prelude.{◌≡◌, ℕ, zero, suc, ◌+◌, ◌/◌, ◌%◌, ◌^◌, ◌≤◌, Bool, true, cond, ◌&&◌, ◌==◌, nat_le}
 use Rattle.card.specs.declared.layout.Field.TheVariants.{Width, Height, Concrete, Span}
 use Rattle.card.specs.declared.layout.LoadCase.TheVariants.{Dead}
 use Rattle.card.specs.Layout.{layout, load_bit, size}
@@ -23,3 +23,9 @@ required map =
     stands map (layout Width).bit
     && (stands map (layout Height).bit
     && (stands map (layout Concrete).bit && (stands map (layout Span).bit && stands map (load_bit Dead))))
+
+-- a field that stands begins at a place, and lies there whole
+pub record Begins (map bit bytes at : ℕ) : Type 0 where
+  pub present : stands map bit ≡ true
+  pub place : at ≡ offset map bit
+  pub whole : at + bytes ≤ offset map 13

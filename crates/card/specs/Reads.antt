@@ -3,9 +3,16 @@ use Rattle.std.specs.Prelude.{◌≡◌, ℕ, true, List, ℤ, pos, negsuc, ◌�
 use Rattle.card.specs.declared.body.Body.{Body}
 use Rattle.card.specs.declared.fault.Fault.{Fault}
 use Rattle.card.specs.declared.layout.Field.{Field}
+use Rattle.card.specs.Card.{map_of, rest_of}
 use Rattle.card.specs.Faults.{Answers}
 use Rattle.card.specs.Layout.{layout}
 use Rattle.card.specs.Numbers.{number_at, number_fault, value, field_fault, signed_at, load_fault}
+
+-- what is left of a card once its map and length are judged
+pub record IsBodyOf (card : List ℕ) (least : ℕ) (body : Body) : Type 0 where
+  pub map : body.map.bits ≡ map_of card
+  pub rest : body.rest.now ≡ rest_of card
+  pub cover : body.least_cover ≡ least
 
 -- the number of a field that begins at a place: it is allowed, or bad
 abbrev pub NumberAs : Field → ℕ → List ℕ → ℕ → Result ℕ Fault → Type 0

@@ -1,6 +1,9 @@
 ghost use Rattle.std.specs.Prelude.{◌≡◌, ◌≤◌, true, length};
+ghost use Rattle.card.specs.Card.{shape_fault};
+ghost use Rattle.card.specs.Faults.{Answers};
 ghost use Rattle.card.specs.Map.{offset, required};
 
+use crate::fault::{Fault, FaultKind};
 use crate::map::Map;
 
 mod parts; // the parts of a beam from the numbers of a card
@@ -17,19 +20,24 @@ pub(crate) struct Body<'a> {
 }
 
 impl<'a> Body<'a> {
-    // The bytes of a card after its map. The cover that an absent field means, 40, may not be below the least.
-    pub(crate) fn new(map: Map, rest: &'a [u8], least_cover: u16) -> Body<'a>
-        requires complete { required map.bits ≡ true }
-        requires whole { length rest.now ≡ offset map.bits 13 }
-        requires covers { (20 ≤ least_cover) × (least_cover ≤ 40) }
-        ensures map { result.map ≡ map }
-        ensures rest { result.rest.now ≡ rest.now }
-        ensures least { result.least_cover ≡ least_cover }
+    ghost use Rattle.card.specs.Reads.{IsBodyOf};
+
+    // The body of a card, or the fault of its map or length. The cover that an absent field means, 40, may not be below the least.
+    pub(crate) fn of(card: &'a [u8], least_cover: u16) -> Result<Body<'a>, Fault>
+        requires { (20 ≤ least_cover) × (least_cover ≤ 40) }
+        ensures { Answers (shape_fault card.now) (IsBodyOf card.now least_cover) result }
     {
-        Body {
+        let [high, low, rest @ ..] = card else {
+            return Err(FaultKind::BytesMissing.at(card.len()));
+        };
+        let map = Map {
+            bits: u16::from_be_bytes([*high, *low]),
+        };
+        map.judge(card.len())?;
+        Ok(Body {
             map,
             rest,
             least_cover,
-        }
+        })
     }
 }

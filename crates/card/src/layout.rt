@@ -1,19 +1,25 @@
-ghost use Rattle.std.specs.Prelude.{◌≡◌, ◌<◌, ◌≤◌, ◌⊎◌};
-ghost use Rattle.card.specs.Layout.{layout, load_bit, size};
+ghost use Rattle.std.specs.Prelude.{◌≡◌, ℕ, ◌<◌, ◌≤◌, ◌⊎◌};
+ghost use Rattle.card.specs.Layout.{layout, load_bit, size, field_size, case_size};
 
 use rebar::materials::{is_concrete, is_steel};
 use rebar::member::is_shear_factor;
 
 // How many bytes each field takes, by its bit.
-const SIZES: [usize; 13] = [2, 2, 1, 2, 2, 1, 1, 2, 1, 24, 24, 24, 24];
+pub(crate) const SIZES: [usize; 13] = [2, 2, 1, 2, 2, 1, 1, 2, 1, 24, 24, 24, 24];
 
-// How many bytes the field of a bit takes.
-pub(crate) fn bytes_of(bit: usize) -> usize
-    requires { bit < 13 }
-    ensures is { result ≡ size bit }
-    ensures small { result ≤ 24 }
-{
-    SIZES[bit]
+// What a bit of the map stands for.
+pub(crate) trait Mapped: Copy {
+    ghost bit: { Self → ℕ };
+
+    ghost bytes: { Self → ℕ };
+
+    // The bit.
+    fn bit(self) -> usize
+        ensures is { result ≡ bit self }
+        ensures known { result < 13 };
+
+    // The table of sizes has what the field takes.
+    ghost sized: { (field : Self) → size (bit field) ≡ bytes field };
 }
 
 // The fields of one number, in the order of their bits.
@@ -33,27 +39,43 @@ pub(crate) enum Field {
 // The fields of a load case: six numbers each.
 #[derive(Clone, Copy)]
 pub(crate) enum LoadCase {
-    Dead,
+    Dead = 9,
     Live,
     Wind,
     Earthquake,
 }
 
-impl Field {
-    // The field's bit in the map.
-    pub(crate) fn bit(self) -> usize
-        ensures is { result ≡ (layout self).bit }
-        ensures known { result < 13 }
-    {
+impl Mapped for Field {
+    ghost bit = { λ field. (layout field).bit };
+
+    ghost bytes = { λ field. (layout field).bytes };
+
+    ghost sized = { field_size };
+
+    fn bit(self) -> usize {
         self as usize
     }
+}
 
+impl Mapped for LoadCase {
+    ghost bit = { load_bit };
+
+    ghost bytes = { λ _. 24 };
+
+    ghost sized = { case_size };
+
+    fn bit(self) -> usize {
+        self as usize
+    }
+}
+
+impl Field {
     // How many bytes the field takes.
     pub(crate) fn bytes(self) -> usize
         ensures is { result ≡ (layout self).bytes }
         ensures one_or_two { (result ≡ 1) ⊎ (result ≡ 2) }
     {
-        bytes_of(self.bit())
+        SIZES[self.bit()]
     }
 
     // What it means that the field is absent. The fields of the last line are required, and never absent.
@@ -75,30 +97,15 @@ impl Field {
         ensures { result ≡ (layout self).allowed least_cover value }
     {
         match self {
-            Field::Width => 250 <= value && value <= 800,
-            Field::Height => 250 <= value && value <= 900,
-            Field::Cover => least_cover <= value && value <= 75,
+            Field::Width => (250..=800).contains(&value),
+            Field::Height => (250..=900).contains(&value),
+            Field::Cover => (least_cover..=75).contains(&value),
             Field::Concrete => is_concrete(value),
             Field::Steel => is_steel(value),
-            Field::Aggregate => 10 <= value && value <= 40,
+            Field::Aggregate => (10..=40).contains(&value),
             Field::Frame => value <= 1,
-            Field::Span => 1000 <= value && value <= 12000,
+            Field::Span => (1000..=12000).contains(&value),
             Field::ShearFactor => is_shear_factor(value),
-        }
-    }
-}
-
-impl LoadCase {
-    // The load case's bit in the map.
-    pub(crate) fn bit(self) -> usize
-        ensures is { result ≡ load_bit self }
-        ensures known { result < 13 }
-    {
-        match self {
-            LoadCase::Dead => 9,
-            LoadCase::Live => 10,
-            LoadCase::Wind => 11,
-            LoadCase::Earthquake => 12,
         }
     }
 }

@@ -1,8 +1,11 @@
-ghost use Rattle.std.specs.Prelude.{◌≡◌, ◌<◌, ◌≤◌};
-ghost use Rattle.card.specs.Layout.{layout, load_bit};
-ghost use Rattle.card.specs.Map.{stands, unknown, required, offset};
+ghost use Rattle.std.specs.Prelude.{◌≡◌, ◌+◌, ◌<◌, ◌≤◌, true, false, MatchOption};
+ghost use Rattle.card.specs.Card.{map_fault, Shaped};
+ghost use Rattle.card.specs.Faults.{Answers};
+ghost use Rattle.card.specs.Map.{stands, unknown, required, offset, Begins};
 
-use crate::layout::{Field, LoadCase, bytes_of};
+use crate::fault::{Fault, FaultKind};
+use crate::layout::{Field, LoadCase, Mapped, SIZES};
+use std::cmp::Ordering;
 
 // The map of a card: a bit for each field, set where the field stands on the card.
 #[derive(Clone, Copy)]
@@ -12,6 +15,7 @@ pub(crate) struct Map {
 
 impl Map {
     // Whether a bit is set; bit 0 is the lowest.
+    #[tactic(auto, unfolding(crate::specs::Map::stands))]
     fn stands(self, bit: usize) -> bool
         requires { bit < 13 }
         ensures { result ≡ stands self.bits bit }
@@ -20,27 +24,21 @@ impl Map {
     }
 
     // Whether a field stands on the card.
-    pub(crate) fn has(self, field: Field) -> bool
-        ensures { result ≡ stands self.bits (layout field).bit }
+    pub(crate) fn has<F: Mapped>(self, field: F) -> bool
+        ensures { result ≡ stands self.bits (F.bit field) }
     {
         self.stands(field.bit())
-    }
-
-    // Whether a load case stands on the card.
-    pub(crate) fn has_case(self, case: LoadCase) -> bool
-        ensures { result ≡ stands self.bits (load_bit case) }
-    {
-        self.stands(case.bit())
     }
 
     // Whether a bit above 12 is set.
     pub(crate) fn has_unknown(self) -> bool
         ensures { result ≡ unknown self.bits }
     {
-        self.bits >= 8192
+        self.bits >= 1 << SIZES.len()
     }
 
     // Whether every required field stands.
+    #[tactic(auto, unfolding(crate::specs::Map::required))]
     pub(crate) fn has_required(self) -> bool
         ensures { result ≡ required self.bits }
     {
@@ -48,21 +46,51 @@ impl Map {
             && self.has(Field::Height)
             && self.has(Field::Concrete)
             && self.has(Field::Span)
-            && self.has_case(LoadCase::Dead)
+            && self.has(LoadCase::Dead)
     }
 
-    // Where the field of a bit begins, counted from the first byte after the map; at 13, where the last field ends.
-    pub(crate) fn offset(self, bit: usize) -> usize
+    // How many bytes the fields take that stand below a bit.
+    fn offset(self, bit: usize) -> usize
         requires { bit ≤ 13 }
         ensures is { result ≡ offset self.bits bit }
         ensures small { result ≤ 312 }
     {
         let mut at: usize = 0;
-        for k in 0..bit {
+        for (k, bytes) in SIZES[..bit].iter().enumerate() {
             if self.stands(k) {
-                at += bytes_of(k);
+                at += *bytes;
             }
         }
         at
+    }
+
+    // Where a field begins, counted from the first byte after the map, if it stands on the card.
+    pub(crate) fn place<F: Mapped>(self, field: F) -> Option<usize>
+        ensures { MatchOption result (stands self.bits (F.bit field) ≡ false) (Begins self.bits (F.bit field) (F.bytes field)) }
+    {
+        if self.has(field) {
+            Some(self.offset(field.bit()))
+        } else {
+            None
+        }
+    }
+
+    // Judges the map, and the number of bytes of a card with this map.
+    #[tactic(auto, using(std::proofs::lemmas::Bool::Decides::nat_tests), unfolding(crate::specs::Card::map_fault))]
+    pub(crate) fn judge(self, bytes: usize) -> Result<(), Fault>
+        ensures { Answers (map_fault self.bits bytes) (λ _. Shaped self.bits bytes) result }
+    {
+        if self.has_unknown() {
+            return Err(FaultKind::UnknownBit.at(0));
+        }
+        if !self.has_required() {
+            return Err(FaultKind::RequiredBitAbsent.at(0));
+        }
+        let end = 2 + self.offset(SIZES.len());
+        match bytes.cmp(&end) {
+            Ordering::Less => Err(FaultKind::BytesMissing.at(bytes)),
+            Ordering::Equal => Ok(()),
+            Ordering::Greater => Err(FaultKind::BytesOver.at(end)),
+        }
     }
 }
