@@ -1,6 +1,6 @@
 ghost use Rattle.std.specs.Prelude.{◌≡◌, false, replicate};
 ghost use Rattle.stock.specs.declared.kind.Kind.TheVariants.{Main, Tie};
-ghost use Rattle.stock.specs.Stock.{has, with_mark, offers_cages};
+ghost use Rattle.stock.specs.Stock.{row, has, with_mark, offers_cages};
 
 use crate::kind::Kind;
 use crate::stock_mark::StockMark;
@@ -24,28 +24,41 @@ impl Stock {
         }
     }
 
+    // Which marks of a kind are in, from mark 3 on.
+    fn row(&self, kind: Kind) -> &[bool]
+        ensures { result.now ≡ row self.now kind }
+    {
+        match kind {
+            Kind::Main => &self.main,
+            Kind::Tie => &self.tie,
+        }
+    }
+
     // Whether the mark of these bars is in.
     pub fn has_bars(&self, bars: &Bars) -> bool
         ensures whether_the_mark_is_in { result ≡ has self.now Main bars.now.mark }
     {
-        self.main[(bars.mark - 3) as usize]
+        self.holds(&StockMark {
+            kind: Kind::Main,
+            mark: bars.mark,
+        })
     }
 
     // Whether the mark of these ties is in.
     pub fn has_ties(&self, ties: &Ties) -> bool
         ensures whether_the_mark_is_in { result ≡ has self.now Tie ties.now.mark }
     {
-        self.tie[(ties.mark - 3) as usize]
+        self.holds(&StockMark {
+            kind: Kind::Tie,
+            mark: ties.mark,
+        })
     }
 
     // Whether this mark is in.
     pub fn holds(&self, mark: &StockMark) -> bool
         ensures whether_the_mark_is_in { result ≡ has self.now mark.now.kind mark.now.mark }
     {
-        match mark.kind {
-            Kind::Main => self.main[(mark.mark - 3) as usize],
-            Kind::Tie => self.tie[(mark.mark - 3) as usize],
-        }
+        self.row(mark.kind)[mark.place()]
     }
 
     // Sets this mark in or out.
@@ -53,8 +66,8 @@ impl Stock {
         ensures this_mark_alone_is_set { self.new ≡ with_mark self.old mark.now.kind mark.now.mark is_in }
     {
         match mark.kind {
-            Kind::Main => self.main[(mark.mark - 3) as usize] = is_in,
-            Kind::Tie => self.tie[(mark.mark - 3) as usize] = is_in,
+            Kind::Main => self.main[mark.place()] = is_in,
+            Kind::Tie => self.tie[mark.place()] = is_in,
         }
     }
 

@@ -1,4 +1,4 @@
-ghost use Rattle.std.specs.Prelude.{◌≡◌, true, MatchOption, ◌≢◌};
+ghost use Rattle.std.specs.Prelude.{◌≡◌, ◌-◌, true, MatchOption, ◌≢◌};
 ghost use Rattle.stock.specs.declared.kind.Kind.{Kind};
 ghost use Rattle.stock.specs.Kinds.{kind_number, known};
 
@@ -17,16 +17,18 @@ impl StockMark {
     pub fn new(kind: u8, mark: u8) -> Option<StockMark>
         ensures known_marks_alone { MatchOption result ((k : Kind) → kind_number k ≡ kind → known k mark ≢ true) (λ m. (kind ≡ kind_number m.kind) × (m.mark ≡ mark)) }
     {
-        match (kind, mark) {
-            (0, 3..=11) => Some(StockMark {
-                kind: Kind::Main,
-                mark,
-            }),
-            (1, 3..=5) => Some(StockMark {
-                kind: Kind::Tie,
-                mark,
-            }),
-            _ => None,
+        let kind = Kind::try_from(kind).ok()?;
+        if kind.knows(mark) {
+            Some(StockMark { kind, mark })
+        } else {
+            None
         }
+    }
+
+    // The place of the mark in the row of its kind.
+    pub(crate) fn place(&self) -> usize
+        ensures { result ≡ self.now.mark - 3 }
+    {
+        (self.mark - 3) as usize
     }
 }
