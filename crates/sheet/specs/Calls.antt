@@ -9,18 +9,17 @@ use Rattle.search.specs.declared.decision.Decision.{Decision}
 use Rattle.stock.specs.Kinds.{kind_number, known}
 use Rattle.stock.specs.Stock.{has, offers_cages}
 use Rattle.search.specs.Lightest.{Lightest}
-use Rattle.sheet.specs.declared.place.Place.TheVariants.{Empty, Open}
 use Rattle.sheet.specs.declared.reading.Reading.{Reading}
 use Rattle.sheet.specs.declared.refusal.Refusal.{Refusal}
 use Rattle.sheet.specs.declared.refusal.Refusal.TheVariants.{NoSuchPlace, PlaceTaken, PlaceEmpty, Card, NoSuchMark, NothingInStock}
 use Rattle.sheet.specs.declared.table.Table.{Table}
-use Rattle.sheet.specs.Places.{is_empty, beam_of, shown_of}
+use Rattle.sheet.specs.Places.{is_empty, beam_of, opened, shown_of}
 use Rattle.sheet.specs.Table.{place_at, with_place, restocked, settled}
 
 -- a new sheet: every place empty, no mark in stock, nothing counted
 abbrev pub New : Table → Type 0
 New t =
-    (t.places ≡ replicate 64 Empty)
+    (t.places ≡ replicate 64 None)
     × (t.stock.main ≡ replicate 9 false)
     × (t.stock.tie ≡ replicate 3 false)
     × (t.count ≡ 0)
@@ -37,7 +36,7 @@ why_enter p card t =
 
 -- the card's beam is open at the place; or nothing has changed
 abbrev pub Enters : ℕ → List ℕ → Table → Result Unit Refusal → Table → Type 0
-Enters p card t (Ok _) t' = (why_enter p card t ≡ None) × ((b : Beam) × (CardAs card (Ok b) × (t' ≡ with_place t p (Open b))))
+Enters p card t (Ok _) t' = (why_enter p card t ≡ None) × ((b : Beam) × (CardAs card (Ok b) × (t' ≡ with_place t p (opened b))))
 Enters p card t (Err e) t' = (why_enter p card t ≡ Some e) × (t' ≡ t)
 
 -- the mark is known in the kind of that number, and set; or it is known in none, and nothing has changed

@@ -5,44 +5,57 @@ use Rattle.rebar.specs.declared.cage.Cage.{Cage}
 use Rattle.stock.specs.declared.kind.Kind.{Kind}
 use Rattle.stock.specs.declared.kind.Kind.TheVariants.{Main, Tie}
 use Rattle.search.specs.declared.decision.Decision.{Decision}
-use Rattle.search.specs.declared.decision.Decision.TheVariants as decision
-use Rattle.sheet.specs.declared.place.Place.{Place}
-use Rattle.sheet.specs.declared.place.Place.TheVariants.{Empty, Open, Chosen, Impossible}
+use Rattle.search.specs.declared.decision.Decision.TheVariants.{Chosen, Impossible}
+use Rattle.sheet.specs.declared.entry.Entry.{Entry}
 use Rattle.sheet.specs.declared.reading.Shown.{Shown}
 use Rattle.sheet.specs.declared.reading.Shown.TheVariants as shown
 
-abbrev pub is_empty : Place → Bool
-is_empty Empty = true
-is_empty (Open b) = false
-is_empty (Chosen b x) = false
-is_empty (Impossible b n) = false
+-- a place holds nothing, or a beam that is open or decided
+abbrev pub is_empty : Option Entry → Bool
+is_empty None = true
+is_empty (Some e) = false
 
-abbrev pub beam_of : Place → Option Beam
-beam_of Empty = None
-beam_of (Open b) = Some b
-beam_of (Chosen b x) = Some b
-beam_of (Impossible b n) = Some b
+abbrev pub beam_of : Option Entry → Option Beam
+beam_of None = None
+beam_of (Some e) = Some e.beam
+
+-- a beam that is open
+abbrev pub opened : Beam → Entry
+opened b = record { beam = b; decision = None }
 
 -- a beam with its decision
-abbrev pub decided : Beam → Decision → Place
-decided b (decision.Chosen x) = Chosen b x
-decided b (decision.Impossible n) = Impossible b n
+abbrev pub decided : Beam → Decision → Entry
+decided b d = record { beam = b; decision = Some d }
 
 -- whether a cage has a bar of this mark in its kind
 abbrev pub uses : Kind → ℕ → Cage → Bool
 uses Main mark c = c.bottom.mark == mark || c.top.mark == mark
 uses Tie mark c = c.ties.mark == mark
 
--- a mark that comes in reopens every decided beam; one that goes out reopens the impossible ones and the chosen ones that use it
-abbrev pub reopened : Kind → ℕ → Bool → Place → Place
-reopened kind mark is-in Empty = Empty
-reopened kind mark is-in (Open b) = Open b
-reopened kind mark is-in (Chosen b x) = cond (is-in || uses kind mark x.cage) (Open b) (Chosen b x)
-reopened kind mark is-in (Impossible b n) = Open b
+-- a mark that comes in makes every decision doubtful; one that goes out the impossible ones and the chosen ones that use it
+abbrev pub doubtful : Kind → ℕ → Bool → Decision → Bool
+doubtful kind mark is-in (Chosen x) = is-in || uses kind mark x.cage
+doubtful kind mark is-in (Impossible n) = true
 
--- what a reader sees
-abbrev pub shown_of : Place → Shown
-shown_of Empty = shown.Empty
-shown_of (Open b) = shown.Open
-shown_of (Chosen b x) = shown.Chosen x
-shown_of (Impossible b n) = shown.Impossible n
+-- a beam with a doubtful decision is open again
+abbrev pub kept : Kind → ℕ → Bool → Option Decision → Option Decision
+kept kind mark is-in None = None
+kept kind mark is-in (Some d) = cond (doubtful kind mark is-in d) None (Some d)
+
+abbrev pub reopened : Kind → ℕ → Bool → Entry → Entry
+reopened kind mark is-in e = record { beam = e.beam; decision = kept kind mark is-in e.decision }
+
+abbrev pub place_reopened : Kind → ℕ → Bool → Option Entry → Option Entry
+place_reopened kind mark is-in None = None
+place_reopened kind mark is-in (Some e) = Some (reopened kind mark is-in e)
+
+-- what a reader sees of a decision, none where the beam is open
+abbrev pub shown_by : Option Decision → Shown
+shown_by None = shown.Open
+shown_by (Some (Chosen x)) = shown.Chosen x
+shown_by (Some (Impossible n)) = shown.Impossible n
+
+-- what a reader sees of a place
+abbrev pub shown_of : Option Entry → Shown
+shown_of None = shown.Empty
+shown_of (Some e) = shown_by e.decision

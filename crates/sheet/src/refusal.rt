@@ -5,7 +5,7 @@ ghost use Rattle.sheet.specs.Refusals.{refusal_number, byte_place};
 use card::fault::Fault;
 
 // Why a call is refused.
-#[derive(Clone, Copy)]
+#[derive(Clone, Copy, Debug, PartialEq, Eq)]
 pub enum Refusal {
     NoSuchPlace,
     PlaceTaken,
@@ -23,21 +23,23 @@ impl From<Fault> for Refusal {
     }
 }
 
-impl Refusal {
-    // The number under which the refusal is reported.
-    pub fn number(self) -> u8
-        ensures number_of_the_refusal { result ≡ refusal_number self }
-    {
-        match self {
+// The number under which the refusal is reported.
+impl From<Refusal> for u8 {
+    ghost from_gives = { λ refusal number. number ≡ refusal_number refusal };
+
+    fn from(refusal: Refusal) -> u8 {
+        match refusal {
             Refusal::NoSuchPlace => 1,
             Refusal::PlaceTaken => 2,
             Refusal::PlaceEmpty => 3,
-            Refusal::Card(fault) => fault.kind.number(),
+            Refusal::Card(fault) => fault.kind.into(),
             Refusal::NoSuchMark => 9,
             Refusal::NothingInStock => 10,
         }
     }
+}
 
+impl Refusal {
     // The byte place of a card's fault; 0 for every other refusal.
     pub fn byte_place(self) -> usize
         ensures place_of_the_fault { result ≡ byte_place self }

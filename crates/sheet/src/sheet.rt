@@ -1,8 +1,9 @@
 ghost use Rattle.std.specs.Prelude.{◌≡◌};
 ghost use Rattle.sheet.specs.Calls.{New, Enters, Stocks, Designs, Reads};
 
+use crate::entry::Entry;
 use crate::place::Place;
-use crate::reading::Reading;
+use crate::reading::{Reading, Shown};
 use crate::refusal::Refusal;
 use crate::table::Table;
 use books::book::Book;
@@ -27,7 +28,7 @@ impl<P: Book> Sheet<P> {
         Sheet {
             pile,
             table: Table {
-                places: [Place::Empty; 64],
+                places: [None; 64],
                 stock: Stock::empty(),
                 count: 0,
             },
@@ -39,14 +40,12 @@ impl<P: Book> Sheet<P> {
         ensures keeps_the_pile { self.new.pile ≡ self.old.pile }
         ensures beam_open_or_nothing_changed { Enters place card.now self.old.table result self.new.table }
     {
-        if place > 63 {
-            return Err(Refusal::NoSuchPlace);
-        }
-        let Place::Empty = self.table.at(place) else {
+        let place = Place::try_from(place)?;
+        if self.table.at(place).is_some() {
             return Err(Refusal::PlaceTaken);
-        };
+        }
         let beam = read_card(card)?;
-        self.table.put(place, Place::Open(beam));
+        self.table.put(place, Entry::open(beam));
         Ok(())
     }
 
@@ -55,9 +54,7 @@ impl<P: Book> Sheet<P> {
         ensures keeps_the_pile { self.new.pile ≡ self.old.pile }
         ensures mark_set_or_nothing_changed { Stocks kind mark is_in self.old.table result self.new.table }
     {
-        let Some(item) = StockMark::new(kind, mark) else {
-            return Err(Refusal::NoSuchMark);
-        };
+        let item = StockMark::new(kind, mark).ok_or(Refusal::NoSuchMark)?;
         self.table.restock(&item, is_in);
         Ok(())
     }
@@ -67,17 +64,13 @@ impl<P: Book> Sheet<P> {
         ensures keeps_the_pile { self.new.pile ≡ self.old.pile }
         ensures lightest_stored_or_nothing_changed { Designs (P.Book.answer self.old.pile) place self.old.table result self.new.table }
     {
-        if place > 63 {
-            return Err(Refusal::NoSuchPlace);
-        }
-        let Some(beam) = self.table.at(place).beam() else {
-            return Err(Refusal::PlaceEmpty);
-        };
+        let place = Place::try_from(place)?;
+        let entry = self.table.at(place).ok_or(Refusal::PlaceEmpty)?;
         if !self.table.stock.offers_cages() {
             return Err(Refusal::NothingInStock);
         }
-        let decision = design(&self.pile, &beam, &self.table.stock);
-        self.table.settle(place, beam, decision);
+        let decision = design(&self.pile, &entry.beam, &self.table.stock);
+        self.table.settle(place, entry.beam, decision);
         Ok(())
     }
 
@@ -85,10 +78,14 @@ impl<P: Book> Sheet<P> {
     pub fn read(&self, place: u8) -> Result<Reading, Refusal>
         ensures what_the_place_shows { Reads place self.now.table result }
     {
-        if place > 63 {
-            return Err(Refusal::NoSuchPlace);
-        }
-        let shown = self.table.at(place).shown();
-        Ok(Reading { place, shown })
+        let place = Place::try_from(place)?;
+        let shown = match self.table.at(place) {
+            None => Shown::Empty,
+            Some(entry) => entry.shown(),
+        };
+        Ok(Reading {
+            place: place.number,
+            shown,
+        })
     }
 }

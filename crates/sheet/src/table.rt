@@ -1,7 +1,8 @@
-ghost use Rattle.std.specs.Prelude.{◌≡◌, ◌<◌, map};
-ghost use Rattle.sheet.specs.Places.{reopened};
+ghost use Rattle.std.specs.Prelude.{◌≡◌, map};
+ghost use Rattle.sheet.specs.Places.{place_reopened};
 ghost use Rattle.sheet.specs.Table.{place_at, with_place, restocked, settled};
 
+use crate::entry::Entry;
 use crate::place::Place;
 use rebar::beam::Beam;
 use search::decision::Decision;
@@ -11,34 +12,40 @@ use stock::stock_mark::StockMark;
 // The places of a sheet, the marks in stock, and how many designs were made.
 #[derive(Drop)]
 pub(crate) struct Table {
-    pub(crate) places: [Place; 64],
+    pub(crate) places: [Option<Entry>; 64],
     pub(crate) stock: Stock,
     pub(crate) count: u32,
 }
 
-// Reopens every place whose decision may no longer be right.
-fn reopen(places: &mut [Place; 64], item: &StockMark, is_in: bool)
-    ensures { places.new ≡ map (reopened item.now.kind item.now.mark is_in) places.old }
+// What a place holds after a mark came in or went out.
+fn reopened_place(held: Option<Entry>, item: &StockMark, is_in: bool) -> Option<Entry>
+    ensures { result ≡ place_reopened item.now.kind item.now.mark is_in held }
+{
+    held.map(|entry| entry.reopened(item, is_in))
+}
+
+// Reopens every beam whose decision may no longer be right.
+fn reopen(places: &mut [Option<Entry>; 64], item: &StockMark, is_in: bool)
+    ensures { places.new ≡ map (place_reopened item.now.kind item.now.mark is_in) places.old }
 {
     for place in places.iter_mut() {
-        *place = place.reopened(item, is_in);
+        *place = reopened_place(*place, item, is_in);
     }
 }
 
 impl Table {
-    pub(crate) fn at(&self, place: u8) -> Place
-        requires { place < 64 }
-        ensures { result ≡ place_at self.now place }
+    // What a place holds.
+    pub(crate) fn at(&self, place: Place) -> Option<Entry>
+        ensures { result ≡ place_at self.now place.number }
     {
-        let held = &self.places[place as usize];
-        *held
+        self.places[place.number as usize]
     }
 
-    pub(crate) fn put(&mut self, place: u8, held: Place)
-        requires { place < 64 }
-        ensures { self.new ≡ with_place self.old place held }
+    // Puts a beam at a place.
+    pub(crate) fn put(&mut self, place: Place, entry: Entry)
+        ensures { self.new ≡ with_place self.old place.number entry }
     {
-        self.places[place as usize] = held;
+        self.places[place.number as usize] = Some(entry);
     }
 
     // Sets a mark in or out.
@@ -53,11 +60,16 @@ impl Table {
     }
 
     // Puts a decision at the place of its beam, and counts it.
-    pub(crate) fn settle(&mut self, place: u8, beam: Beam, decision: Decision)
-        requires { place < 64 }
-        ensures { self.new ≡ settled place beam decision self.old }
+    pub(crate) fn settle(&mut self, place: Place, beam: Beam, decision: Decision)
+        ensures { self.new ≡ settled place.number beam decision self.old }
     {
-        self.put(place, Place::decided(beam, decision));
+        self.put(
+            place,
+            Entry {
+                beam,
+                decision: Some(decision),
+            },
+        );
         self.count = self.count.saturating_add(1);
     }
 }

@@ -1,8 +1,8 @@
 use Rattle.std.proofs.Common.{◌≡◌, ◌++◌, map, take, drop}
-use Rattle.sheet.specs.Places.{reopened}
+use Rattle.sheet.specs.Places.{place_reopened}
 use Rattle.sheet.proofs.table.reopen.Given as goal
 
 abbrev pub invariant-loop-place : goal.invariant-loop-place
 invariant-loop-place l =
     l.places
-    ≡ map (reopened l.item.kind l.item.mark l.is_in) (take l.place-index l.initial.places) ++ drop l.place-index l.initial.places
+    ≡ map (place_reopened l.item.kind l.item.mark l.is_in) (take l.place-index l.initial.places) ++ drop l.place-index l.initial.places
