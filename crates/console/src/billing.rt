@@ -1,4 +1,5 @@
-use bill::bill::{Begun, Refusal, Refused};
+use crate::failure::Failure;
+use bill::bill::{Begun, Refused};
 use books::book::Book;
 use sheet::reading::Shown;
 use sheet::sheet::Sheet;
@@ -18,21 +19,9 @@ fn add_lines<P: Book>(begun: Begun, page: &mut [u8], sheet: &Sheet<P>) -> Result
 }
 
 // Writes the bill of the chosen places on the page, and says how many bytes it has.
-pub(crate) fn write_bill<P: Book>(page: &mut [u8], sheet: &Sheet<P>) -> Result<usize, Refusal> {
+pub(crate) fn write_bill<P: Book>(page: &mut [u8], sheet: &Sheet<P>) -> Result<usize, Failure> {
     let begun = Begun::begin(page)?;
-    let lined = match add_lines(begun, page, sheet) {
-        Ok(lined) => lined,
-        Err(refused) => return Err(torn(refused)),
-    };
-    match lined.total(page) {
-        Ok(totalled) => Ok(totalled.written),
-        Err(refused) => Err(torn(refused)),
-    }
-}
-
-// Tears a bill that was handed back, and says why it was.
-fn torn(refused: Refused) -> Refusal {
-    let Refused { bill, refusal } = refused;
-    let _ = bill.tear();
-    refusal
+    let lined = add_lines(begun, page, sheet)?;
+    let totalled = lined.total(page)?;
+    Ok(totalled.written)
 }

@@ -1,76 +1,46 @@
 use crate::billing::write_bill;
+use crate::failure::Failure;
 use crate::order::{Order, next_order};
-use crate::transcript::{Outcome, order_line};
-use bill::bill::Refusal;
+use crate::transcript::{Line, Outcome};
 use books::book::Book;
 use books::frame::Frame;
 use books::general::General;
 use sheet::reading::Shown;
+use sheet::refusal::Refusal;
 use sheet::sheet::Sheet;
 use std::alloc::{AllocError, Global};
 
 // The greatest length of a bill: its head, 64 lines of at most 38 bytes, and the total.
 const PAGE: usize = 2459;
 
-// Why a stream gets no output.
-#[derive(Clone, Copy)]
-pub enum Failure {
-    NoMemory,
-    Bill(Refusal),
-}
-
-impl From<AllocError> for Failure {
-    fn from(_error: AllocError) -> Failure {
-        Failure::NoMemory
-    }
-}
-
-impl From<Refusal> for Failure {
-    fn from(refusal: Refusal) -> Failure {
-        Failure::Bill(refusal)
-    }
-}
-
-// What a design order has led to.
-fn decided<P: Book>(sheet: &Sheet<P>, place: u8) -> Outcome {
-    match sheet.read(place) {
-        Ok(reading) => match reading.shown {
-            Shown::Chosen(_) => Outcome::Cage,
-            Shown::Impossible(article) => Outcome::NoCage(article),
-            Shown::Empty | Shown::Open => Outcome::Done,
-        },
-        Err(refusal) => Outcome::Refused(refusal),
-    }
+// Designs the beam at a place, and reads what was decided.
+fn design<P: Book>(sheet: &mut Sheet<P>, place: u8) -> Result<Outcome, Refusal> {
+    sheet.design(place)?;
+    Ok(match sheet.read(place)?.shown {
+        Shown::Chosen(_) => Outcome::Cage,
+        Shown::Impossible(article) => Outcome::NoCage(article),
+        Shown::Empty | Shown::Open => Outcome::Done,
+    })
 }
 
 // Carries out one order, and gives its line.
-fn carry_out<P: Book>(
-    heap: Global,
-    sheet: &mut Sheet<P>,
-    order: Order,
-) -> Result<String, AllocError> {
+fn carry_out<P: Book>(sheet: &mut Sheet<P>, order: Order) -> Line {
     match order {
-        Order::Stock { kind, mark, is_in } => {
-            let outcome = match sheet.stock(kind, mark, is_in) {
-                Ok(()) => Outcome::Done,
-                Err(refusal) => Outcome::Refused(refusal),
-            };
-            order_line(heap, 'S', mark, outcome)
-        }
-        Order::Enter { place, card } => {
-            let outcome = match sheet.enter(place, card) {
-                Ok(()) => Outcome::Done,
-                Err(refusal) => Outcome::Refused(refusal),
-            };
-            order_line(heap, 'E', place, outcome)
-        }
-        Order::Design { place } => {
-            let outcome = match sheet.design(place) {
-                Ok(()) => decided(sheet, place),
-                Err(refusal) => Outcome::Refused(refusal),
-            };
-            order_line(heap, 'D', place, outcome)
-        }
+        Order::Stock { kind, mark, is_in } => Line {
+            letter: 'S',
+            number: mark,
+            outcome: sheet.stock(kind, mark, is_in).map(|()| Outcome::Done),
+        },
+        Order::Enter { place, card } => Line {
+            letter: 'E',
+            number: place,
+            outcome: sheet.enter(place, card).map(|()| Outcome::Done),
+        },
+        Order::Design { place } => Line {
+            letter: 'D',
+            number: place,
+            outcome: design(sheet, place),
+        },
     }
 }
 
@@ -86,7 +56,7 @@ fn carry_out_all<P: Book>(
         let Some((order, after)) = next_order(rest) else {
             return out.extend_from_slice(b"STOP\n");
         };
-        let line = carry_out(heap, sheet, order)?;
+        let line = carry_out(sheet, order).to_string(heap)?;
         out.extend_from_slice(line.as_bytes())?;
         rest = after;
     }

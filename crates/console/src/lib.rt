@@ -3,5 +3,6 @@
 
 mod billing; // the bill of the places that are chosen
 pub mod console; // a whole stream from its first byte to the bill
+pub mod failure; // why a stream gets no output
 mod order; // the orders that a stream spells
 mod transcript; // the line of an order

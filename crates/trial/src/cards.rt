@@ -17,7 +17,7 @@ fn check_refused(rt: &impl Abort, card: &[u8], number: u8, place: usize) -> Resu
     match read_card(card) {
         Ok(_) => Err(Fail::new("the card is accepted")),
         Err(fault) => {
-            assert_eq!(rt; (fault.kind.number(), fault.place), (number, place));
+            assert_eq!(rt; (u8::from(fault.kind), fault.place), (number, place));
             Ok(())
         },
     }
