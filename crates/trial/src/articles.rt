@@ -1,5 +1,3 @@
-ghost use Rattle.std.specs.Prelude.{◌≡◌, ◌%◌, ◌≤◌};
-
 use crate::reference::beam;
 use books::frame::Frame;
 use books::general::General;
@@ -8,62 +6,56 @@ use rebar::cage::{Bars, Cage, Ties};
 use std::test::Fail;
 
 // Bars of one face.
-fn bars(number: u8, mark: u8) -> Bars
-    requires number { (2 ≤ number) × (number ≤ 12) }
-    requires mark { (3 ≤ mark) × (mark ≤ 11) }
-{
-    Bars { mark, number }
+fn bars(number: u8, mark: u8) -> Result<Bars, Fail> {
+    Bars::new(mark, number).ok_or_else(|| Fail::new("there are no such bars"))
 }
 
-// What the frame layer over the general book answers for the reference beam, with #3 ties.
-fn told(in_frame: bool, bottom: Bars, top: Bars, spacing: u16) -> Result<u8, Fail>
-    requires { (50 ≤ spacing) × ((spacing ≤ 600) × (spacing % 25 ≡ 0)) }
-{
+// A cage with #3 ties at a spacing.
+fn cage(bottom: Bars, top: Bars, spacing: u16) -> Result<Cage, Fail> {
+    let ties = Ties::new(3, spacing).ok_or_else(|| Fail::new("there are no such ties"))?;
+    Ok(Cage { bottom, top, ties })
+}
+
+// What the frame layer over the general book answers for the reference beam.
+fn told(in_frame: bool, bottom: Bars, top: Bars, spacing: u16) -> Result<u8, Fail> {
     let pile = Frame { below: General };
-    let ties = Ties { mark: 3, spacing };
-    let beam = beam(in_frame)?;
-    Ok(check_framed(&pile, &beam, &Cage { bottom, top, ties }))
+    let cage = cage(bottom, top, spacing)?;
+    Ok(check_framed(&pile, &beam(in_frame)?, &cage))
 }
 
 #[test]
 fn bending_and_shear(rt: HostRuntime) -> Result<(), Fail> {
-    assert_eq!(rt; told(false, bars(3, 5), bars(4, 5), 200)?, 0);
-    assert_eq!(rt; told(false, bars(3, 5), bars(3, 5), 200)?, 7);
-    assert_eq!(rt; told(false, bars(2, 5), bars(4, 5), 200)?, 6);
-    assert_eq!(rt; told(false, bars(3, 5), bars(4, 5), 225)?, 13);
-    assert_eq!(rt; told(false, bars(3, 5), bars(4, 5), 125)?, 13);
-    assert_eq!(rt; told(false, bars(3, 5), bars(4, 5), 150)?, 0);
+    assert_eq!(rt; told(false, bars(3, 5)?, bars(4, 5)?, 200)?, 0);
+    assert_eq!(rt; told(false, bars(3, 5)?, bars(3, 5)?, 200)?, 7);
+    assert_eq!(rt; told(false, bars(2, 5)?, bars(4, 5)?, 200)?, 6);
+    assert_eq!(rt; told(false, bars(3, 5)?, bars(4, 5)?, 225)?, 13);
+    assert_eq!(rt; told(false, bars(3, 5)?, bars(4, 5)?, 125)?, 13);
+    assert_eq!(rt; told(false, bars(3, 5)?, bars(4, 5)?, 150)?, 0);
     Ok(())
 }
 
 #[test]
 fn too_much_steel(rt: HostRuntime) -> Result<(), Fail> {
-    assert_eq!(rt; told(false, bars(12, 11), bars(4, 5), 200)?, 1);
-    assert_eq!(rt; told(false, bars(2, 11), bars(2, 11), 200)?, 4);
+    assert_eq!(rt; told(false, bars(12, 11)?, bars(4, 5)?, 200)?, 1);
+    assert_eq!(rt; told(false, bars(2, 11)?, bars(2, 11)?, 200)?, 4);
     Ok(())
 }
 
 #[test]
 fn in_a_frame(rt: HostRuntime) -> Result<(), Fail> {
-    assert_eq!(rt; told(true, bars(3, 5), bars(4, 5), 150)?, 26);
-    assert_eq!(rt; told(true, bars(3, 5), bars(4, 5), 100)?, 0);
+    assert_eq!(rt; told(true, bars(3, 5)?, bars(4, 5)?, 150)?, 26);
+    assert_eq!(rt; told(true, bars(3, 5)?, bars(4, 5)?, 100)?, 0);
     Ok(())
 }
 
 // A worked cage at a spacing.
-fn worked_cage(spacing: u16) -> Cage
-    requires { (50 ≤ spacing) × ((spacing ≤ 600) × (spacing % 25 ≡ 0)) }
-{
-    Cage {
-        bottom: bars(3, 5),
-        top: bars(4, 5),
-        ties: Ties { mark: 3, spacing },
-    }
+fn worked_cage(spacing: u16) -> Result<Cage, Fail> {
+    cage(bars(3, 5)?, bars(4, 5)?, spacing)
 }
 
 #[test]
 fn steel_of_the_worked_cages(rt: HostRuntime) -> Result<(), Fail> {
-    assert_eq!(rt; beam(false)?.steel(&worked_cage(200)), 9_604_780);
-    assert_eq!(rt; beam(true)?.steel(&worked_cage(100)), 12_041_500);
+    assert_eq!(rt; beam(false)?.steel(&worked_cage(200)?), 9_604_780);
+    assert_eq!(rt; beam(true)?.steel(&worked_cage(100)?), 12_041_500);
     Ok(())
 }

@@ -14,13 +14,11 @@ const WHOLE: [u8; 112] = *b"\x1f\xff\x01\x90\x02\x58\x19\x01\x18\x0a\xf0\x0a\x01
 
 // The card is refused with this number at this byte place.
 fn check_refused(rt: &impl Abort, card: &[u8], number: u8, place: usize) -> Result<(), Fail> {
-    match read_card(card) {
-        Ok(_) => Err(Fail::new("the card is accepted")),
-        Err(fault) => {
-            assert_eq!(rt; (u8::from(fault.kind), fault.place), (number, place));
-            Ok(())
-        },
-    }
+    let Err(fault) = read_card(card) else {
+        return Err(Fail::new("the card is accepted"));
+    };
+    assert_eq!(rt; (u8::from(fault.kind), fault.place), (number, place));
+    Ok(())
 }
 
 // Width, height, cover, concrete, steel, aggregate, span, shear factor.
@@ -58,9 +56,7 @@ fn reference_card(rt: HostRuntime) -> Result<(), Fail> {
 
 #[test]
 fn card_of_all_fields(rt: HostRuntime) -> Result<(), Fail> {
-    let Ok(beam) = read_card(&WHOLE) else {
-        return Err(Fail::new("the card is refused"));
-    };
+    let beam = read_card(&WHOLE).map_err(|_| Fail::new("the card is refused"))?;
     assert_eq!(rt; sizes(&beam), [400, 600, 25, 280, 2800, 10, 6000, 60]);
     assert_eq!(rt; actions(&beam), [71_000, 92_000, 1_000_000, 28_000]);
     assert_eq!(rt; beam.loads.earthquake.right.shear, -100_000);

@@ -15,8 +15,5 @@ const FRAMED: [u8; 59] = *b"\x06\xcb\x01\x2c\x01\xf4\x00\xd2\x01\x13\x88\
 // The reference beam, in the frame or not.
 pub(crate) fn beam(in_frame: bool) -> Result<Beam, Fail> {
     let card: &[u8] = if in_frame { &FRAMED } else { &CARD };
-    match read_card(card) {
-        Ok(beam) => Ok(beam),
-        Err(_) => Err(Fail::new("the card is refused")),
-    }
+    read_card(card).map_err(|_| Fail::new("the card is refused"))
 }

@@ -5,13 +5,9 @@ use std::test::Fail;
 
 // Whether the console answers the stream with these bytes.
 fn answers(rt: &(impl Abort + AllocGlobal), stream: &[u8], expected: &[u8]) -> Result<(), Fail> {
-    match answer_orders(rt.alloc(), stream) {
-        Ok(out) => {
-            assert!(rt; out.as_slice() == expected);
-            Ok(())
-        },
-        Err(_) => Err(Fail::new("no output")),
-    }
+    let out = answer_orders(rt.alloc(), stream)?;
+    assert!(rt; out.as_slice() == expected);
+    Ok(())
 }
 
 #[test]

@@ -38,23 +38,11 @@ impl Extremes {
         none.with(left).with(mid).with(right)
     }
 
-    fn above(self) -> u32
-        ensures { result ≡ unsigned_abs self.most }
-    {
-        self.most.unsigned_abs()
-    }
-
-    fn below(self) -> u32
-        ensures { result ≡ unsigned_abs self.least }
-    {
-        self.least.unsigned_abs()
-    }
-
     // What is farthest from 0.
     fn size(self) -> u32
         ensures { result ≡ max (unsigned_abs self.most) (unsigned_abs self.least) }
     {
-        self.above().max(self.below())
+        self.most.unsigned_abs().max(self.least.unsigned_abs())
     }
 }
 
@@ -170,8 +158,8 @@ impl Actions {
     {
         let envelope = Envelope::of(loads);
         Actions {
-            bottom: envelope.moments.above(),
-            top: envelope.moments.below(),
+            bottom: envelope.moments.most.unsigned_abs(),
+            top: envelope.moments.least.unsigned_abs(),
             shear: envelope.shears.size(),
             gravity: envelope.gravity.size(),
         }
