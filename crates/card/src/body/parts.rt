@@ -5,7 +5,7 @@ ghost use Rattle.card.specs.Reads.{Reads, FieldAs};
 use crate::body::Body;
 use crate::fault::Fault;
 use crate::layout::{Field, LoadCase};
-use crate::load::Span;
+use crate::load::Bytes;
 use crate::number::number;
 use loads::loads::{Case, Force, Loads};
 use rebar::beam::Beam;
@@ -70,7 +70,7 @@ impl Body<'_> {
     {
         let rest = self.rest;
         match self.map.place(case) {
-            Some(at) => Span::<24> { rest, at }.forces(),
+            Some(at) => Bytes::<24> { rest, at }.forces(),
             None => Ok(Case {
                 left: NO_FORCE,
                 mid: NO_FORCE,
