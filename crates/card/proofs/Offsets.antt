@@ -1,5 +1,5 @@
 -- How the place of a field goes on from bit to bit.
-use Rattle.std.proofs.Common.{◌≡◌, ℕ, zero, suc, ◌+◌, ◌-◌, ◌<◌, ◌≤◌, true, false, cond, refl, ap, ◌∙◌, take, get_or, sym, ◌*◌, add-zero, add-one, arith}
+use Rattle.std.proofs.Common.{◌≡◌, ℕ, zero, suc, ◌+◌, ◌-◌, ◌*◌, ◌<◌, ◌≤◌, true, false, cond, get_or, take, refl, ap, ◌∙◌, add-zero, add-one, arith}
 use Rattle.std.proofs.lemmas.List.{get_or-take}
 use Rattle.rebar.proofs.Table.{below}
 use Rattle.card.specs.Layout.{size, sizes}
@@ -9,7 +9,7 @@ pub offset_none : (map : ℕ) → offset map 0 ≡ 0
 unfolding offset
 offset_none map = refl
 
-pub offset_more : (map k : ℕ) → offset map (k + 1) ≡ offset map k + cond (stands map k) (size k) 0
+offset_more : (map k : ℕ) → offset map (k + 1) ≡ offset map k + cond (stands map k) (size k) 0
 unfolding offset
 offset_more map k = rw add-one refl
 
@@ -19,25 +19,25 @@ offset_standing map k s = offset_more map k ∙ rw s refl
 pub offset_absent : (map k : ℕ) → stands map k ≡ false → offset map (k + 1) ≡ offset map k
 offset_absent map k s = let e = offset_more map k in let f : cond (stands map k) (size k) 0 ≡ 0 = rw s refl in omega arith
 
--- the sizes are read from those of the fields below a bit
-pub next_standing : (map k bit : ℕ) → k < bit → stands map k ≡ true → offset map (k + 1) ≡ offset map k + get_or (take bit sizes) k 0
+-- a size that is read among those of the fields below a bit
+pub size_below : (bit k : ℕ) → k < bit → get_or (take bit sizes) k 0 ≡ size k
 unfolding size
-next_standing map k bit h s = offset_standing map k s ∙ ap (λ n. offset map k + n) (sym (get_or-take bit sizes k 0 h))
+size_below bit k h = get_or-take bit sizes k 0 h
 
-size_small : (k : ℕ) → k < 13 → size k ≤ 24
+pub size_bound : (k : ℕ) → k < 13 → size k ≤ 24
 unfolding size
-size_small k h = below 24 sizes tt k h
+size_bound k h = below 24 sizes tt k h
 
-pub next_small : (k bit : ℕ) → k < bit → k < 13 → get_or (take bit sizes) k 0 ≤ 24
-next_small k bit h w = rw (get_or-take bit sizes k 0 h) (below 24 sizes tt k w)
-
-pub offset_small : (map k : ℕ) → k ≤ 13 → offset map k ≤ 24 * k
+pub offset_bound : (map k : ℕ) → k ≤ 13 → offset map k ≤ 24 * k
 unfolding offset
-offset_small map zero h = rw offset_none (omega arith)
-offset_small map (suc k) h =
-    let l = offset_small map k (omega arith) in
-    let s = size_small k (omega arith) in
+offset_bound map zero h = omega arith
+offset_bound map (suc k) h =
+    let before = offset_bound map k (omega arith) in
+    let here = size_bound k (omega arith) in
     grind arith
+
+-- what one more field adds
+pub ruleset steps = (offset_none, offset_standing, offset_absent, size_below, size_bound, offset_bound)
 
 offset_far : (map k n : ℕ) → offset map k ≤ offset map (k + n)
 offset_far map k zero = rw add-zero (omega arith)

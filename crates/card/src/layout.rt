@@ -7,18 +7,18 @@ use rebar::member::is_shear_factor;
 // How many bytes each field takes, by its bit.
 pub(crate) const SIZES: [usize; 13] = [2, 2, 1, 2, 2, 1, 1, 2, 1, 24, 24, 24, 24];
 
-// What a bit of the map stands for.
+// A field, of one number or of a load case: what a bit of the map stands for.
 pub(crate) trait Mapped: Copy {
     ghost bit: { Self → ℕ };
 
     ghost bytes: { Self → ℕ };
 
-    // The bit.
+    // The field's bit in the map.
     fn bit(self) -> usize
         ensures is { result ≡ bit self }
         ensures known { result < 13 };
 
-    // The table of sizes has what the field takes.
+    // The table of sizes says how many bytes the field takes.
     ghost sized: { (field : Self) → size (bit field) ≡ bytes field };
 }
 

@@ -10,20 +10,20 @@ use loads::loads::{Case, Force};
 
 // N bytes of the rest, and where they begin.
 #[derive(Clone, Copy)]
-pub(crate) struct Span<'a, const N: usize> {
+pub(crate) struct Bytes<'a, const N: usize> {
     pub(crate) rest: &'a [u8],
     pub(crate) at: usize,
     ghost within: { at + N ≤ length rest.now },
 }
 
-impl<'a, const N: usize> Span<'a, N> {
+impl<'a, const N: usize> Bytes<'a, N> {
     // M of the bytes, from one of them on.
-    fn part<const M: usize>(&self, from: usize) -> Span<'a, M>
+    fn part<const M: usize>(&self, from: usize) -> Bytes<'a, M>
         requires { from + M ≤ N }
         ensures rest { result.rest.now ≡ self.now.rest.now }
         ensures at { result.at ≡ self.now.at + from }
     {
-        Span {
+        Bytes {
             rest: self.rest,
             at: self.at + from,
         }
@@ -37,19 +37,19 @@ fn is_moderate(load: i32) -> bool
     (-100_000..=100_000).contains(&load)
 }
 
-impl Span<'_, 4> {
+impl Bytes<'_, 4> {
     // A moment or a shear, or its fault.
     #[tactic(auto, unfolding(crate::specs::Numbers::load_fault))]
     fn load(&self) -> Result<i32, Fault>
         ensures { LoadAs self.now.rest.now self.now.at result }
     {
-        let Span { rest, at } = *self;
+        let Bytes { rest, at } = *self;
         let load = i32::from_be_bytes([rest[at], rest[at + 1], rest[at + 2], rest[at + 3]]);
         in_range(load, is_moderate(load), at)
     }
 }
 
-impl Span<'_, 8> {
+impl Bytes<'_, 8> {
     // A moment and a shear, or their first fault.
     fn force(&self) -> Result<Force, Fault>
         ensures { Answers (force_fault self.now.rest.now self.now.at) (ForceAt self.now.rest.now self.now.at) result }
@@ -61,7 +61,7 @@ impl Span<'_, 8> {
     }
 }
 
-impl Span<'_, 24> {
+impl Bytes<'_, 24> {
     // The three forces of a load case, or their first fault.
     pub(crate) fn forces(&self) -> Result<Case, Fault>
         ensures { Answers (forces_fault self.now.rest.now self.now.at) (ForcesAt self.now.rest.now self.now.at) result }

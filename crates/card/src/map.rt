@@ -24,14 +24,14 @@ impl Map {
     }
 
     // Whether a field stands on the card.
-    pub(crate) fn has<F: Mapped>(self, field: F) -> bool
+    fn has<F: Mapped>(self, field: F) -> bool
         ensures { result ≡ stands self.bits (F.bit field) }
     {
         self.stands(field.bit())
     }
 
     // Whether a bit above 12 is set.
-    pub(crate) fn has_unknown(self) -> bool
+    fn has_unknown(self) -> bool
         ensures { result ≡ unknown self.bits }
     {
         self.bits >= 1 << SIZES.len()
@@ -39,7 +39,7 @@ impl Map {
 
     // Whether every required field stands.
     #[tactic(auto, unfolding(crate::specs::Map::required))]
-    pub(crate) fn has_required(self) -> bool
+    fn has_required(self) -> bool
         ensures { result ≡ required self.bits }
     {
         self.has(Field::Width)
@@ -50,6 +50,7 @@ impl Map {
     }
 
     // How many bytes the fields take that stand below a bit.
+    #[tactic(auto, using(crate::proofs::Offsets::steps))]
     fn offset(self, bit: usize) -> usize
         requires { bit ≤ 13 }
         ensures is { result ≡ offset self.bits bit }
@@ -65,14 +66,11 @@ impl Map {
     }
 
     // Where a field begins, counted from the first byte after the map, if it stands on the card.
+    #[tactic(auto, using(crate::proofs::Offsets::begins))]
     pub(crate) fn place<F: Mapped>(self, field: F) -> Option<usize>
         ensures { MatchOption result (stands self.bits (F.bit field) ≡ false) (Begins self.bits (F.bit field) (F.bytes field)) }
     {
-        if self.has(field) {
-            Some(self.offset(field.bit()))
-        } else {
-            None
-        }
+        self.has(field).then(|| self.offset(field.bit()))
     }
 
     // Judges the map, and the number of bytes of a card with this map.

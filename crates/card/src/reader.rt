@@ -18,6 +18,7 @@ fn read(card: &[u8], least_cover: u16) -> Result<Beam, Fault>
 }
 
 // The beam of a card, or the card's first fault.
+#[tactic(auto, using(crate::proofs::First::judges), unfolding(crate::specs::Card::card_fault))]
 pub fn read_card(card: &[u8]) -> Result<Beam, Fault>
     ensures beam_or_fault { CardAs card.now result }
     ensures first_bad_number { Judges card.now result }

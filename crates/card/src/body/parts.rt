@@ -5,7 +5,7 @@ ghost use Rattle.card.specs.Reads.{Reads, FieldAs};
 use crate::body::Body;
 use crate::fault::Fault;
 use crate::layout::{Field, LoadCase};
-use crate::load::Span;
+use crate::load::Bytes;
 use crate::number::number;
 use loads::loads::{Case, Force, Loads};
 use rebar::beam::Beam;
@@ -21,6 +21,7 @@ const NO_FORCE: Force = Force {
 
 impl Body<'_> {
     // The value of a field, on the card or by its absence.
+    #[tactic(auto, using(crate::proofs::Rows::default_allowed), unfolding(crate::specs::Numbers::field_fault, crate::specs::Numbers::value))]
     fn field(&self, field: Field) -> Result<u16, Fault>
         ensures { FieldAs field self.now result }
     {
@@ -40,6 +41,7 @@ impl Body<'_> {
         })
     }
 
+    #[tactic(auto, using(rebar::proofs::Grades::concrete_range, rebar::proofs::Grades::steel_range))]
     fn materials(&self) -> Result<Materials, Fault>
         ensures { Reads materials_fault MaterialsIs self.now result }
     {
@@ -50,6 +52,7 @@ impl Body<'_> {
         })
     }
 
+    #[tactic(auto, using(rebar::proofs::Grades::shear_factor_range))]
     fn member(&self) -> Result<Member, Fault>
         ensures { Reads member_fault MemberIs self.now result }
     {
@@ -61,12 +64,13 @@ impl Body<'_> {
     }
 
     // A load case, on the card or no load at all.
+    #[tactic(auto, unfolding(crate::specs::Parts::case_fault, crate::specs::Parts::load_number))]
     fn case(&self, case: LoadCase) -> Result<Case, Fault>
         ensures { Reads (λ _. case_fault case) (CaseIs case) self.now result }
     {
         let rest = self.rest;
         match self.map.place(case) {
-            Some(at) => Span::<24> { rest, at }.forces(),
+            Some(at) => Bytes::<24> { rest, at }.forces(),
             None => Ok(Case {
                 left: NO_FORCE,
                 mid: NO_FORCE,

@@ -1,5 +1,5 @@
 use Rattle.std.proofs.Common.{add-zero}
-use Rattle.card.proofs.load.Span+24.forces.Goals as goal
+use Rattle.card.proofs.load.Bytes+24.forces.Goals as goal
 
 pub returns : goal.returns
 returns c =
