@@ -13,12 +13,12 @@ use Rattle.books.specs.Numbers.{d_of, q_of, z_of, vc_of, vm_of, vs_of}
 use Rattle.books.specs.Articles.{least_steel, section_bears, ties_bear}
 
 -- the probable moment of a face, rounded up; the bracket stops at 0
-unfoldable pub probable_moment : Section → Materials → ℕ → ℕ → ℕ
+abbrev pub probable_moment : Section → Materials → ℕ → ℕ → ℕ
 probable_moment s m q d =
     (5 * q * (17 * m.concrete * s.width * d - 12500 * q) + (680 * m.concrete * s.width - 1)) / (680 * m.concrete * s.width)
 
 -- j, the shear that the two probable moments make over the span, rounded up
-unfoldable pub moment_shear : ℕ → ℕ → ℕ → ℕ
+abbrev pub moment_shear : ℕ → ℕ → ℕ → ℕ
 moment_shear span bottom top = (10 * (bottom + top) + (span - 1)) / span
 
 -- 23, 24: the most steel
@@ -34,7 +34,7 @@ abbrev pub close_in_frame : Ties → ℕ → Rule
 close_in_frame t z = 40 * t.spacing ≼ z and t.spacing ≼ 120
 
 -- vc, or 0 where the moments make more than half of the shear
-unfoldable pub relied_on : ℕ → ℕ → ℕ → ℕ
+abbrev pub relied_on : ℕ → ℕ → ℕ → ℕ
 relied_on g j vc = cond (nat_le (2 * j) (g + j)) vc 0
 
 -- articles 27 and 28, of gravity shear g and moment shear j at an effective depth z (R-033, Articles 128 to 130)

@@ -1,7 +1,9 @@
 pub mod Answers
+pub mod Asked
 pub mod Rules
 pub mod Numbers
 pub mod Articles
 pub mod General
 pub mod Frame
+pub mod Faces
 pub mod Pile

@@ -9,36 +9,36 @@ use Rattle.rebar.specs.declared.cage.Ties.{Ties}
 use Rattle.rebar.specs.declared.cage.Cage.{Cage}
 
 -- the clear gap between bars of diameter w, in hundredths of a mm (R-033, Article 115)
-unfoldable pub gap : Materials → ℕ → ℕ
+abbrev pub gap : Materials → ℕ → ℕ
 gap m w = max (max (10 * w) 2500) (133 * m.aggregate)
 
 -- the width inside the ties, in hundredths
-unfoldable pub room : Section → Ties → ℕ
+abbrev pub room : Section → Ties → ℕ
 room s t = 100 * s.width - 200 * s.cover - 20 * bar_diameter t.mark
 
 -- the width of i bars in a row, in hundredths
-unfoldable pub row_length : Materials → Bars → ℕ → ℕ
+abbrev pub row_length : Materials → Bars → ℕ → ℕ
 row_length m x i = 10 * i * bar_diameter x.mark + (i - 1) * gap m (bar_diameter x.mark)
 
 -- one row where all bars fit, else two
-unfoldable pub rows_of : Section → Materials → Ties → Bars → ℕ
+abbrev pub rows_of : Section → Materials → Ties → Bars → ℕ
 rows_of s m t x = cond (nat_le (row_length m x x.number) (room s t)) 1 2
 
 -- the bars of the outer row: all of them, or half rounded up
-unfoldable pub outer_of : Section → Materials → Ties → Bars → ℕ
+abbrev pub outer_of : Section → Materials → Ties → Bars → ℕ
 outer_of s m t x = cond (nat_le (row_length m x x.number) (room s t)) x.number ((x.number + 1) / 2)
 
 -- what the effective depth loses to a second row, in tenths, rounded up
-unfoldable pub second_row_loss : Bars → ℕ
+abbrev pub second_row_loss : Bars → ℕ
 second_row_loss x = ((bar_diameter x.mark + 250) * (x.number / 2) + (x.number - 1)) / x.number
 
 -- the effective depth of a face whose bars lie in k rows, in tenths of a mm
-unfoldable pub effective_depth : Section → Ties → Bars → ℕ → ℕ
+abbrev pub effective_depth : Section → Ties → Bars → ℕ → ℕ
 effective_depth s t x k =
     10 * s.height - 10 * s.cover - bar_diameter t.mark - (bar_diameter x.mark + 1) / 2 - (k - 1) * second_row_loss x
 
 -- how deep k rows of a face's bars stand into the section, in tenths
-unfoldable pub rows_depth : Section → Ties → Bars → ℕ → ℕ
+abbrev pub rows_depth : Section → Ties → Bars → ℕ → ℕ
 rows_depth s t x k = 10 * s.cover + bar_diameter t.mark + bar_diameter x.mark * k + 250 * (k - 1)
 
 -- d, the effective depth of a face
@@ -50,7 +50,7 @@ abbrev pub face_depth : Section → Materials → Ties → Bars → ℕ
 face_depth s m t x = rows_depth s t x (rows_of s m t x)
 
 -- q, the force of a face's bars at yield
-unfoldable pub q_of : Materials → Bars → ℕ
+abbrev pub q_of : Materials → Bars → ℕ
 q_of m x = face_area x * (m.steel / 100)
 
 -- z, the smaller effective depth of a cage
@@ -58,7 +58,7 @@ abbrev pub z_of : Section → Materials → Cage → ℕ
 z_of s m c = min (d_of s m c.ties c.bottom) (d_of s m c.ties c.top)
 
 -- a shear strength of the concrete, with the factor k
-unfoldable pub concrete_shear : ℕ → Section → Materials → ℕ → ℕ
+abbrev pub concrete_shear : ℕ → Section → Materials → ℕ → ℕ
 concrete_shear k s m z = k * root_of m.concrete * s.width * z / 100000000
 
 -- vc, what the concrete bears
@@ -70,5 +70,5 @@ abbrev pub vm_of : Section → Materials → ℕ → ℕ
 vm_of s m z = concrete_shear 265 s m z
 
 -- vs, what the ties bear
-unfoldable pub vs_of : Materials → Ties → ℕ → ℕ
+abbrev pub vs_of : Materials → Ties → ℕ → ℕ
 vs_of m t z = bar_area t.mark * (m.steel / 100) * z / (5 * t.spacing)

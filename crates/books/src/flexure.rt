@@ -1,49 +1,57 @@
-ghost use Rattle.std.specs.Prelude.{◌≡◌, ◌≤◌};
+ghost use Rattle.std.specs.Prelude.{◌≡◌, ◌*◌, ◌≤◌};
 ghost use Rattle.books.specs.Rules.{test};
 ghost use Rattle.books.specs.Articles.{ductile, bends, least_steel, least_steel_under};
 
 use crate::face::Face;
-use rebar::materials::Materials;
-use rebar::section::Section;
+use rebar::beam::Beam;
+
+// A strip of concrete over the width of the section: f × b.
+pub(crate) fn strip_of(beam: &Beam) -> u64
+    ensures is { result ≡ beam.now.materials.concrete * beam.now.section.width }
+    ensures bounded { (45000 ≤ result) × (result ≤ 336000) }
+{
+    beam.materials.concrete as u64 * beam.section.width as u64
+}
 
 impl Face {
-    // Whether the steel yields well before the concrete crushes: net strain 0.005 at d.
-    pub(crate) fn is_ductile(&self, section: &Section, materials: &Materials) -> bool
-        ensures { result ≡ test (ductile section.now materials.now self.now.force self.now.depth) }
+    // The stress block, were it as deep as the steel: f × b × d.
+    pub(crate) fn full_block(&self, beam: &Beam) -> u64
+        ensures is { result ≡ beam.now.materials.concrete * beam.now.section.width * self.now.depth }
+        ensures small { result ≤ 2956800000 }
     {
-        let f = materials.concrete as u64;
-        let b = section.width as u64;
-        16_000_000 * self.force <= 51 * materials.block_factor() as u64 * f * b * self.depth
+        strip_of(beam) * self.depth
+    }
+
+    // Whether the steel yields well before the concrete crushes: net strain 0.005 at d.
+    pub(crate) fn is_ductile(&self, beam: &Beam) -> bool
+        ensures { result ≡ test (ductile beam.now.section beam.now.materials self.now.force self.now.depth) }
+    {
+        let block = beam.materials.block_factor() as u64;
+        16_000_000 * self.force <= 51 * block * self.full_block(beam)
     }
 
     // Whether the face bears a moment in bending.
-    pub(crate) fn bears_moment(&self, section: &Section, materials: &Materials, moment: u32) -> bool
+    pub(crate) fn bears_moment(&self, beam: &Beam, moment: u32) -> bool
         requires { moment ≤ 3800000 }
-        ensures { result ≡ test (bends section.now materials.now moment self.now.force self.now.depth) }
+        ensures { result ≡ test (bends beam.now.section beam.now.materials moment self.now.force self.now.depth) }
     {
-        let f = materials.concrete as u64;
-        let b = section.width as u64;
         let m = moment as u64;
         let q = self.force;
-        170_000 * m * f * b + 90_000 * q * q <= 153 * q * f * b * self.depth
+        170_000 * m * strip_of(beam) + 90_000 * q * q <= 153 * q * self.full_block(beam)
     }
 
     // Whether the face has the least steel.
-    pub(crate) fn has_least_steel(&self, section: &Section, materials: &Materials) -> bool
-        ensures { result ≡ test (least_steel section.now materials.now self.now.area self.now.depth) }
+    pub(crate) fn has_least_steel(&self, beam: &Beam) -> bool
+        ensures { result ≡ test (least_steel beam.now.section beam.now.materials self.now.area self.now.depth) }
     {
-        materials.least_ratio() as u64 * section.width as u64 * self.depth <= 100_000 * self.area
+        let b = beam.section.width as u64;
+        beam.materials.least_ratio() as u64 * b * self.depth <= 100_000 * self.area
     }
 
     // Whether the face has the least steel, where a moment pulls at it.
-    pub(crate) fn has_least_steel_under(
-        &self,
-        section: &Section,
-        materials: &Materials,
-        moment: u32,
-    ) -> bool
-        ensures { result ≡ test (least_steel_under section.now materials.now moment self.now.area self.now.depth) }
+    pub(crate) fn has_least_steel_under(&self, beam: &Beam, moment: u32) -> bool
+        ensures { result ≡ test (least_steel_under beam.now.section beam.now.materials moment self.now.area self.now.depth) }
     {
-        moment == 0 || self.has_least_steel(section, materials)
+        moment == 0 || self.has_least_steel(beam)
     }
 }

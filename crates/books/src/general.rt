@@ -1,11 +1,14 @@
-ghost use Rattle.std.specs.Prelude.{◌≡◌, ◌≤◌};
+ghost use Rattle.std.specs.Prelude.{◌≡◌};
 ghost use Rattle.books.specs.Rules.{first_broken, PassesExactly, RefusesExactly};
 ghost use Rattle.books.specs.Articles.{in_shear, general};
+ghost use Rattle.books.specs.Asked.{answer_of};
+ghost use Rattle.books.specs.Faces.{least_depth};
 ghost use Rattle.books.specs.General.{articles_for, general_answer};
 
+use crate::article::{Broken, answer, ask};
 use crate::book::Book;
-use crate::face::Face;
-use crate::shear::Strengths;
+use crate::face::{Face, Faces};
+use crate::shear::{Shear, Strengths};
 use rebar::beam::Beam;
 use rebar::cage::{Cage, Ties};
 
@@ -13,68 +16,38 @@ use rebar::cage::{Cage, Ties};
 #[derive(Clone, Copy)]
 pub struct General;
 
-// The first of the articles 10 to 13 that does not hold at an effective depth, or 0.
-fn first_broken_in_shear(beam: &Beam, ties: &Ties, depth: u64) -> u8
-    requires { depth ≤ 8800 }
-    ensures { result ≡ first_broken (in_shear beam.now.section beam.now.materials beam.now.member.shear_factor beam.now.actions.shear ties.now depth) }
+// Asks the articles 10 to 13.
+fn ask_in_shear(beam: &Beam, ties: &Ties, faces: &Faces) -> Result<(), Broken>
+    ensures { answer_of result ≡ first_broken (in_shear beam.now.section beam.now.materials beam.now.member.shear_factor beam.now.actions.shear ties.now (least_depth faces.now)) }
 {
-    let section = &beam.section;
-    let materials = &beam.materials;
-    let factor = beam.member.shear_factor;
-    let shear = beam.actions.shear as u64;
-    let strengths = Strengths::at(section, materials, ties, depth);
-    if !strengths.section_bears(factor, shear) {
-        return 10;
-    }
-    if !strengths.bear(factor, shear) {
-        return 11;
-    }
-    if !strengths.has_least_ties(section, materials, ties, factor, shear) {
-        return 12;
-    }
-    if !strengths.is_close_enough(ties, depth) {
-        return 13;
-    }
-    0
+    let strengths = Strengths::of(beam, ties, faces);
+    let shear = Shear {
+        force: beam.actions.shear as u64,
+        factor: beam.member.shear_factor as u64,
+    };
+    ask(10, strengths.section_bears(&shear))?;
+    ask(11, strengths.bear(&shear))?;
+    ask(12, strengths.has_least_ties(beam, ties, &shear))?;
+    ask(13, strengths.is_close_enough(ties, faces.depth()))
 }
 
-// The first article that does not hold, or 0.
-fn first_broken_of(beam: &Beam, cage: &Cage) -> u8
-    ensures { result ≡ first_broken (general beam.now.section beam.now.materials beam.now.member beam.now.actions cage.now) }
+// Asks all articles of the book.
+fn ask_all(beam: &Beam, cage: &Cage) -> Result<(), Broken>
+    ensures { answer_of result ≡ first_broken (general beam.now.section beam.now.materials beam.now.member beam.now.actions cage.now) }
 {
-    let section = &beam.section;
-    let materials = &beam.materials;
     let actions = &beam.actions;
-    let bottom = Face::of(section, materials, &cage.ties, &cage.bottom);
-    if !bottom.fits {
-        return 1;
-    }
-    let top = Face::of(section, materials, &cage.ties, &cage.top);
-    if !top.fits {
-        return 2;
-    }
-    if !bottom.stands_apart(&top, section) {
-        return 3;
-    }
-    if !bottom.is_ductile(section, materials) {
-        return 4;
-    }
-    if !top.is_ductile(section, materials) {
-        return 5;
-    }
-    if !bottom.bears_moment(section, materials, actions.bottom) {
-        return 6;
-    }
-    if !top.bears_moment(section, materials, actions.top) {
-        return 7;
-    }
-    if !bottom.has_least_steel_under(section, materials, actions.bottom) {
-        return 8;
-    }
-    if !top.has_least_steel_under(section, materials, actions.top) {
-        return 9;
-    }
-    first_broken_in_shear(beam, &cage.ties, bottom.depth.min(top.depth))
+    let bottom = Face::of(beam, &cage.ties, &cage.bottom);
+    ask(1, bottom.fits)?;
+    let top = Face::of(beam, &cage.ties, &cage.top);
+    ask(2, top.fits)?;
+    ask(3, bottom.stands_apart(&top, beam))?;
+    ask(4, bottom.is_ductile(beam))?;
+    ask(5, top.is_ductile(beam))?;
+    ask(6, bottom.bears_moment(beam, actions.bottom))?;
+    ask(7, top.bears_moment(beam, actions.top))?;
+    ask(8, bottom.has_least_steel_under(beam, actions.bottom))?;
+    ask(9, top.has_least_steel_under(beam, actions.top))?;
+    ask_in_shear(beam, &cage.ties, &Faces { bottom, top })
 }
 
 impl Book for General {
@@ -85,6 +58,6 @@ impl Book for General {
         ensures passes_exactly_when_every_article_holds { PassesExactly (articles_for beam.now cage.now) result }
         ensures refusal_names_the_first_broken_article { RefusesExactly (articles_for beam.now cage.now) result }
     {
-        first_broken_of(beam, cage)
+        answer(ask_all(beam, cage))
     }
 }

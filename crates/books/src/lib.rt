@@ -1,6 +1,7 @@
 // Article books: what they answer to a beam and a cage.
 #![tactic(auto)]
 
+mod article; // an article that does not hold, and how articles are asked
 pub mod book; // the trait of article books
 mod face; // rows, depths and force of a face's bars
 mod flexure; // what a face bears in bending, and its least steel

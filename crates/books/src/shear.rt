@@ -1,11 +1,19 @@
 ghost use Rattle.std.specs.Prelude.{◌≡◌, ◌≤◌};
 ghost use Rattle.books.specs.Rules.{test};
-ghost use Rattle.books.specs.Numbers.{concrete_shear, vc_of, vm_of, vs_of};
+ghost use Rattle.books.specs.Numbers.{vc_of, vm_of, vs_of};
 ghost use Rattle.books.specs.Articles.{section_bears, ties_bear, least_ties, close_enough};
 
+use crate::face::{Faces, yield_stress};
+use rebar::beam::Beam;
 use rebar::cage::Ties;
-use rebar::materials::Materials;
-use rebar::section::Section;
+
+// A factored shear in tenths of a kg, and the strength reduction factor that goes with it, in hundredths.
+#[derive(Clone, Copy)]
+pub(crate) struct Shear {
+    pub force: u64,
+    pub factor: u64,
+    ghost bounded: { (force ≤ 1000000000) × (factor ≤ 75) },
+}
 
 // What a section bears in shear, in kg: its concrete vc, its ties vs, and vm at the most.
 #[derive(Clone, Copy)]
@@ -16,73 +24,50 @@ pub(crate) struct Strengths {
     ghost bounded: { (concrete ≤ 400000) × (ties ≤ 300000) × (most ≤ 400000) },
 }
 
-// A shear strength of the concrete by its factor, 53 or 265.
-fn concrete_bears(factor: u64, section: &Section, materials: &Materials, depth: u64) -> u64
-    requires { (factor ≤ 265) × (depth ≤ 8800) }
-    ensures is { result ≡ concrete_shear factor section.now materials.now depth }
-    ensures small { result ≤ 400000 }
-{
-    factor * materials.root() as u64 * section.width as u64 * depth / 100_000_000
-}
-
-// What the ties bear.
-fn ties_bear(materials: &Materials, ties: &Ties, depth: u64) -> u64
-    requires { depth ≤ 8800 }
-    ensures is { result ≡ vs_of materials.now ties.now depth }
-    ensures small { result ≤ 300000 }
-{
-    ties.area() as u64 * (materials.steel as u64 / 100) * depth / (5 * ties.spacing as u64)
-}
-
 impl Strengths {
-    // The strengths at an effective depth.
-    pub(crate) fn at(section: &Section, materials: &Materials, ties: &Ties, depth: u64) -> Strengths
-        requires { depth ≤ 8800 }
-        ensures concrete { result.concrete ≡ vc_of section.now materials.now depth }
-        ensures ties { result.ties ≡ vs_of materials.now ties.now depth }
-        ensures most { result.most ≡ vm_of section.now materials.now depth }
+    ghost use Rattle.books.specs.Faces.{least_depth};
+
+    // The strengths of a beam with these faces and ties.
+    pub(crate) fn of(beam: &Beam, ties: &Ties, faces: &Faces) -> Strengths
+        ensures concrete { result.concrete ≡ vc_of beam.now.section beam.now.materials (least_depth faces.now) }
+        ensures ties { result.ties ≡ vs_of beam.now.materials ties.now (least_depth faces.now) }
+        ensures most { result.most ≡ vm_of beam.now.section beam.now.materials (least_depth faces.now) }
     {
+        let r = beam.materials.root() as u64;
+        let b = beam.section.width as u64;
+        let y = yield_stress(beam);
+        let z = faces.depth();
         Strengths {
-            concrete: concrete_bears(53, section, materials, depth),
-            ties: ties_bear(materials, ties, depth),
-            most: concrete_bears(265, section, materials, depth),
+            concrete: 53 * r * b * z / 100_000_000,
+            ties: ties.area() as u64 * y * z / (5 * ties.spacing as u64),
+            most: 265 * r * b * z / 100_000_000,
         }
     }
 
     // Whether the section bears the shear, were it to have any ties.
-    pub(crate) fn section_bears(&self, factor: u16, shear: u64) -> bool
-        requires { shear ≤ 1000000000 }
-        ensures { result ≡ test (section_bears factor shear self.now.most) }
+    pub(crate) fn section_bears(&self, shear: &Shear) -> bool
+        ensures { result ≡ test (section_bears shear.now.factor shear.now.force self.now.most) }
     {
-        10 * shear <= factor as u64 * self.most
+        10 * shear.force <= shear.factor * self.most
     }
 
     // Whether concrete and ties bear the shear.
-    pub(crate) fn bear(&self, factor: u16, shear: u64) -> bool
-        requires { shear ≤ 1000000000 }
-        ensures { result ≡ test (ties_bear factor shear self.now.concrete self.now.ties) }
+    pub(crate) fn bear(&self, shear: &Shear) -> bool
+        ensures { result ≡ test (ties_bear shear.now.factor shear.now.force self.now.concrete self.now.ties) }
     {
-        10 * shear <= factor as u64 * (self.concrete + self.ties)
+        10 * shear.force <= shear.factor * (self.concrete + self.ties)
     }
 
     // Whether the ties are the least, where the shear asks for any.
-    pub(crate) fn has_least_ties(
-        &self,
-        section: &Section,
-        materials: &Materials,
-        ties: &Ties,
-        factor: u16,
-        shear: u64,
-    ) -> bool
-        requires { shear ≤ 1000000000 }
-        ensures { result ≡ test (least_ties section.now materials.now factor ties.now shear self.now.concrete) }
+    pub(crate) fn has_least_ties(&self, beam: &Beam, ties: &Ties, shear: &Shear) -> bool
+        ensures { result ≡ test (least_ties beam.now.section beam.now.materials shear.now.factor ties.now shear.now.force self.now.concrete) }
     {
-        20 * shear <= factor as u64 * self.concrete
-            || 7 * section.width as u64 * ties.spacing as u64
-                <= 400 * ties.area() as u64 * (materials.steel as u64 / 100)
+        let b = beam.section.width as u64;
+        20 * shear.force <= shear.factor * self.concrete
+            || 7 * b * ties.spacing as u64 <= 400 * ties.area() as u64 * yield_stress(beam)
     }
 
-    // Whether the ties stand close enough.
+    // Whether the ties stand close enough at an effective depth.
     pub(crate) fn is_close_enough(&self, ties: &Ties, depth: u64) -> bool
         ensures { result ≡ test (close_enough ties.now depth self.now.concrete self.now.ties) }
     {

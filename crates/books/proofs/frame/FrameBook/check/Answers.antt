@@ -2,10 +2,10 @@ use Rattle.std.proofs.Common.{rules}
 use Rattle.books.specs.Frame.{frame_answer}
 use Rattle.books.proofs.frame.FrameBook.check.Goals as goal
 
-pub returns-then-beam : goal.returns-then-beam
+pub returns-in-0 : goal.returns-in-0
 unfolding frame_answer
-returns-then-beam g c = search rules
+returns-in-0 g c = search rules
 
-pub returns-else-beam : goal.returns-else-beam
+pub returns-in_default : goal.returns-in_default
 unfolding frame_answer
-returns-else-beam g c = search rules
+returns-in_default g c = search rules
