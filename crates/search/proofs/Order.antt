@@ -1,6 +1,6 @@
 -- The order of lists of numbers.
 use Rattle.std.proofs.Common.{ℕ, List, [], ◌∷◌, ◌∙◌, inl, inr, arith}
-use Rattle.search.specs.Lightest.{Before}
+use Rattle.rebar.specs.Order.{Before}
 
 pub before_trans : (xs ys zs : List ℕ) → Before xs ys → Before ys zs → Before xs zs
 before_trans [] [] zs h k = absurd h

@@ -1,12 +1,16 @@
 -- Choices of the same cage and steel are the same; bars and ties are known by their place.
-use Rattle.std.proofs.Common.{◌≡◌, ◌/◌, ◌<◌, arith}
+use Rattle.std.proofs.Common.{◌≡◌, ℕ, ◌/◌, ◌<◌, ◌≤◌, Bool, List, get_or, ap, subst, sym, lit≤, ◌∙◌, arith}
 use mathlib.Core.HLevel.{is_prop→PathP}
 use native.Mathlib.Bridge.{le_prop}
 use Rattle.rebar.specs.declared.cage.Bars.{Bars}
 use Rattle.rebar.specs.declared.cage.Ties.{Ties}
+use Rattle.rebar.specs.declared.beam.Beam.{Beam}
+use Rattle.rebar.specs.Steel.{ties_steel}
 use Rattle.rebar.proofs.Same.{same_bars, same_ties}
+use Rattle.stock.specs.declared.kind.Kind.{Kind}
 use Rattle.search.specs.declared.decision.Choice.{Choice}
-use Rattle.search.specs.Search.{bars_place, ties_place}
+use Rattle.search.specs.declared.weighed_ties.WeighedTies.{WeighedTies}
+use Rattle.search.specs.Search.{TieIn, AllBars, AllTies, bars_place, ties_place}
 
 pub same_choice : (a b : Choice) → a.cage ≡ b.cage → a.steel ≡ b.steel → a ≡ b
 same_choice a b p q =
@@ -14,20 +18,35 @@ same_choice a b p q =
 
 -- a place has one pair of numbers, and there are 99 of bars and 69 of ties
 pub same_bars_place : (a b : Bars) → bars_place a ≡ bars_place b → a ≡ b
-unfolding bars_place
 same_bars_place a b e = same_bars a b (omega arith) (omega arith)
 
 pub bars_place_lt : (a : Bars) → bars_place a < 99
-unfolding bars_place
 bars_place_lt a = omega arith
 
 pub same_ties_place : (a b : Ties) → ties_place a ≡ ties_place b → a ≡ b
-unfolding ties_place
 same_ties_place a b e =
     let m : a.mark ≡ b.mark = omega arith in
     let q : a.spacing / 25 ≡ b.spacing / 25 = omega arith in
     same_ties a b m (omega (arith, a.spaced.2, b.spaced.2))
 
 pub ties_place_lt : (a : Ties) → ties_place a < 69
-unfolding ties_place
 ties_place_lt a = omega arith
+
+-- the bars whose place is k are those at k of the list of all, and so are the ties
+pub bars_here : (bars : List Bars) → AllBars bars → (k : ℕ) (t : Bars) → k < 99 → (b : Bars) → bars_place b ≡ k → b ≡ get_or bars k t
+bars_here bars all k t lt b e = same_bars_place b (get_or bars k t) (e ∙ sym (all k t lt))
+
+pub ties_here : (beam : Beam) (ties : List WeighedTies) → AllTies beam ties → (k : ℕ) (t : WeighedTies) → k < 69 → (b : Ties) → ties_place b ≡ k → b ≡ (get_or ties k t).ties
+ties_here beam ties all k t lt b e = same_ties_place b (get_or ties k t).ties (e ∙ sym (all k t lt).0)
+
+-- a bound on the steel of all listed ties that are from stock is one on that of all ties from stock
+pub bound_of_listed : (got : Kind → ℕ → Bool) (beam : Beam) (ties : List WeighedTies) (least : ℕ) → AllTies beam ties
+    → ((k : ℕ) (d : WeighedTies) → k < 69 → TieIn got (get_or ties k d).ties → least ≤ (get_or ties k d).steel)
+    → (t : Ties) → TieIn got t → least ≤ ties_steel beam t
+bound_of_listed got beam ties least all below t is_in =
+    let d : WeighedTies = record { ties = t; steel = 0; bounded = lit≤ tt } in
+    let k = ties_place t in
+    let at = all k d (ties_place_lt t) in
+    let e = same_ties_place (get_or ties k d).ties t at.0 in
+    let h = below k d (ties_place_lt t) (subst (λ x. TieIn got x) (sym e) is_in) in
+    omega (arith, h, at.1, ap (ties_steel beam) e)

@@ -9,7 +9,8 @@ use Rattle.stock.specs.declared.kind.Kind.{Kind}
 use Rattle.search.specs.declared.decision.Choice.{Choice}
 use Rattle.search.specs.declared.decision.Decision.{Decision}
 use Rattle.search.specs.declared.decision.Decision.TheVariants.{Chosen, Impossible}
-use Rattle.search.specs.Lightest.{FromStock, numbers}
+use Rattle.rebar.specs.Order.{numbers}
+use Rattle.search.specs.Lightest.{FromStock}
 use Rattle.search.specs.Search.{Lighter, Step}
 use Rattle.search.proofs.Order.{before_trans, before_itself}
 

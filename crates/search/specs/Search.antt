@@ -1,9 +1,10 @@
 -- What the steps of the search keep. A reader of the public contracts needs none of this.
-use Rattle.std.specs.Prelude.{◌≡◌, ℕ, ◌+◌, ◌-◌, ◌*◌, ◌/◌, ◌<◌, ◌≤◌, Bool, T, ◌⊎◌, List, ◌∷◌, slice_index}
+use Rattle.std.specs.Prelude.{◌≡◌, ℕ, ◌+◌, ◌-◌, ◌*◌, ◌/◌, ◌<◌, ◌≤◌, Bool, T, ◌⊎◌, List, ◌∷◌, slice_index_or}
 use Rattle.rebar.specs.declared.beam.Beam.{Beam}
 use Rattle.rebar.specs.declared.cage.Bars.{Bars}
 use Rattle.rebar.specs.declared.cage.Ties.{Ties}
 use Rattle.rebar.specs.declared.cage.Cage.{Cage}
+use Rattle.rebar.specs.Order.{numbers, Before}
 use Rattle.rebar.specs.Steel.{steel, ties_steel}
 use Rattle.books.specs.Answers.{Passes}
 use Rattle.stock.specs.declared.kind.Kind.{Kind}
@@ -11,7 +12,8 @@ use Rattle.stock.specs.declared.kind.Kind.TheVariants.{Main, Tie}
 use Rattle.search.specs.declared.decision.Choice.{Choice}
 use Rattle.search.specs.declared.decision.Decision.{Decision}
 use Rattle.search.specs.declared.decision.Decision.TheVariants.{Chosen, Impossible}
-use Rattle.search.specs.Lightest.{FromStock, Before, numbers}
+use Rattle.search.specs.declared.weighed_ties.WeighedTies.{WeighedTies}
+use Rattle.search.specs.Lightest.{FromStock}
 
 abbrev pub MainIn : (Kind → ℕ → Bool) → Bars → Type 0
 MainIn got bars = T (got Main bars.mark)
@@ -44,16 +46,20 @@ Outweighs floor (Chosen x) = x.steel < floor
 Outweighs floor (Impossible n) = ⊥
 
 -- the place of a face's bars, and of ties, in the order of the search
-unfoldable pub bars_place : Bars → ℕ
+abbrev pub bars_place : Bars → ℕ
 bars_place bars = (bars.mark - 3) * 11 + (bars.number - 2)
 
-unfoldable pub ties_place : Ties → ℕ
+abbrev pub ties_place : Ties → ℕ
 ties_place ties = (ties.mark - 3) * 23 + (ties.spacing / 25 - 2)
 
--- the table holds the steel of the ties t, and its least is no more than that where they are from stock
-abbrev pub Listed : (Kind → ℕ → Bool) → Beam → List ℕ → ℕ → Ties → Type 0
-Listed got beam each least t =
-    (slice_index each (ties_place t) ≡ ties_steel beam t) × (ties_steel beam t ≤ 163229352) × (TieIn got t → least ≤ ties_steel beam t)
+-- all bars of a face, each at its place
+abbrev pub AllBars : List Bars → Type 0
+AllBars bars = (k : ℕ) (d : Bars) → k < 99 → bars_place (slice_index_or bars k d) ≡ k
+
+-- all ties, each at its place and with its steel in the beam
+abbrev pub AllTies : Beam → List WeighedTies → Type 0
+AllTies beam ties =
+    (k : ℕ) (d : WeighedTies) → k < 69 → (ties_place (slice_index_or ties k d).ties ≡ k) × ((slice_index_or ties k d).steel ≡ ties_steel beam (slice_index_or ties k d).ties)
 
 -- the decision is right with regard to all cages of which P holds
 abbrev pub Done : (Beam → Cage → ℕ) → Beam → (Cage → Type 0) → Decision → Type 0

@@ -1,7 +1,10 @@
 ghost use Rattle.std.specs.Prelude.{◌≡◌, ◌<◌};
-ghost use Rattle.search.specs.Search.{bars_place, ties_place};
+ghost use Rattle.search.specs.Search.{bars_place, ties_place, AllBars, AllTies};
 
+use crate::weighed_ties::WeighedTies;
+use rebar::beam::Beam;
 use rebar::cage::{Bars, Ties};
+use std::array;
 
 // How many bars of a face there are: nine marks, each in eleven numbers.
 pub(crate) const BARS: usize = 99;
@@ -9,8 +12,8 @@ pub(crate) const BARS: usize = 99;
 // How many ties there are: three marks, each at 23 spacings.
 pub(crate) const TIES: usize = 69;
 
-// The bars of a face, by mark and then by number.
-pub(crate) fn bars_at(k: usize) -> Bars
+// The bars of a face at a place: by mark and then by number.
+fn bars_at(k: usize) -> Bars
     requires { k < 99 }
     ensures { bars_place result ≡ k }
 {
@@ -20,8 +23,8 @@ pub(crate) fn bars_at(k: usize) -> Bars
     }
 }
 
-// The ties, by mark and then by spacing.
-pub(crate) fn ties_at(k: usize) -> Ties
+// The ties at a place: by mark and then by spacing.
+fn ties_at(k: usize) -> Ties
     requires { k < 69 }
     ensures { ties_place result ≡ k }
 {
@@ -29,4 +32,22 @@ pub(crate) fn ties_at(k: usize) -> Ties
         mark: 3 + (k / 23) as u8,
         spacing: 50 + 25 * (k % 23) as u16,
     }
+}
+
+// All bars of a face, in the order of their places.
+pub(crate) fn all_bars() -> [Bars; BARS]
+    ensures { AllBars result }
+{
+    array::from_fn(bars_at)
+}
+
+// All ties with their steel in a beam, in the order of their places.
+pub(crate) fn all_ties(beam: &Beam) -> [WeighedTies; TIES]
+    ensures { AllTies beam.now result }
+{
+    array::from_fn(|k| {
+        let ties = ties_at(k);
+        let steel = beam.ties_steel(&ties);
+        WeighedTies { ties, steel }
+    })
 }
