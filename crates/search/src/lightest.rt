@@ -6,7 +6,6 @@ ghost use Rattle.search.specs.Search.{MainIn, Step, Done, OfPair, OfBottom};
 
 use crate::decision::{Choice, Decision};
 use crate::searching::Search;
-use crate::weighing::is_outweighed;
 use books::book::Book;
 use rebar::beam::Beam;
 use rebar::cage::{Bars, Cage};
@@ -22,7 +21,7 @@ impl<P: Book> Search<'_, P> {
         ensures done { Done (P.answer self.now.pile.now) self.now.beam.now (OfPair (has self.now.stock.now) bottom.now top.now) result }
     {
         let main = self.beam.bars_steel(bottom) + self.beam.bars_steel(top);
-        if is_outweighed(main + self.least, &best) {
+        if best.outweighs(main + self.least) {
             return best;
         }
         let mut found = best;
@@ -68,6 +67,7 @@ impl<P: Book> Search<'_, P> {
         }
         found
     }
+
     // The decision with all cages.
     fn weigh_bottoms(&self, best: Decision) -> Decision
         ensures step { Step (P.answer self.now.pile.now) (has self.now.stock.now) self.now.beam.now best result }

@@ -1,4 +1,4 @@
-ghost use Rattle.std.specs.Prelude.{◌≡◌, MatchBool};
+ghost use Rattle.std.specs.Prelude.{◌≡◌, ◌↔◌, IsTrue};
 ghost use Rattle.rebar.specs.Steel.{steel};
 ghost use Rattle.stock.specs.Stock.{has};
 ghost use Rattle.search.specs.Lightest.{FromStock};
@@ -8,11 +8,25 @@ use crate::decision::{Choice, Decision};
 use crate::searching::Search;
 use books::book::Book;
 
-// Whether a cage has less steel than another, or as much and is the smaller.
-fn is_lighter(choice: &Choice, other: &Choice) -> bool
-    ensures { MatchBool result (Lighter choice.now.steel choice.now.cage other.now) (Lighter choice.now.steel choice.now.cage other.now → ⊥) }
-{
-    choice.steel < other.steel || choice.steel == other.steel && choice.cage < other.cage
+impl Choice {
+    // Whether the cage has less steel than another, or as much and is the smaller.
+    fn is_lighter(&self, other: &Choice) -> bool
+        ensures { IsTrue result ↔ Lighter self.now.steel self.now.cage other.now }
+    {
+        self.steel < other.steel || self.steel == other.steel && self.cage < other.cage
+    }
+}
+
+impl Decision {
+    // Whether no cage of this steel or more can take its place.
+    pub(crate) fn outweighs(&self, floor: u32) -> bool
+        ensures { IsTrue result ↔ Outweighs floor self.now }
+    {
+        match self {
+            Decision::Chosen(chosen) => chosen.steel < floor,
+            Decision::Impossible(_) => false,
+        }
+    }
 }
 
 impl<P: Book> Search<'_, P> {
@@ -25,7 +39,7 @@ impl<P: Book> Search<'_, P> {
     {
         match best {
             Decision::Chosen(chosen) => {
-                if is_lighter(&choice, &chosen) && self.pile.check(self.beam, &choice.cage) == 0 {
+                if choice.is_lighter(&chosen) && self.pile.check(self.beam, &choice.cage) == 0 {
                     Decision::Chosen(choice)
                 } else {
                     best
@@ -40,15 +54,5 @@ impl<P: Book> Search<'_, P> {
                 }
             }
         }
-    }
-}
-
-// Whether no cage of this steel or more can take the place of the decision.
-pub(crate) fn is_outweighed(floor: u32, best: &Decision) -> bool
-    ensures { MatchBool result (Outweighs floor best.now) (Outweighs floor best.now → ⊥) }
-{
-    match best {
-        Decision::Chosen(chosen) => chosen.steel < floor,
-        Decision::Impossible(_) => false,
     }
 }

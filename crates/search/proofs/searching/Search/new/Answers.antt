@@ -1,5 +1,5 @@
 use Rattle.stock.specs.Stock.{has}
-use Rattle.search.proofs.Same.{bound_of_listed}
+use Rattle.search.proofs.PlaceLemmas.{bound_of_listed}
 use Rattle.search.proofs.searching.Search.new.Goals as goal
 
 pub invariant_of-result-clause-none_less : goal.invariant_of-result-clause-none_less
