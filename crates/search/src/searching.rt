@@ -2,17 +2,15 @@ ghost use Rattle.std.specs.Prelude.{◌≡◌, ℕ, ◌<◌, ◌≤◌, slice_in
 ghost use Rattle.rebar.specs.Steel.{ties_steel};
 ghost use Rattle.rebar.specs.declared.cage.Ties.{Ties};
 ghost use Rattle.stock.specs.Stock.{has};
+ghost use Rattle.search.specs.declared.weighed_ties.TheConstants.{MOST};
 ghost use Rattle.search.specs.declared.weighed_ties.WeighedTies.{WeighedTies};
 ghost use Rattle.search.specs.Search.{TieIn, AllBars, AllTies};
 
 use crate::places::{BARS, TIES, all_bars, all_ties};
-use crate::weighed_ties::WeighedTies;
+use crate::weighed_ties::{MOST, WeighedTies};
 use rebar::beam::Beam;
 use rebar::cage::Bars;
 use stock::stock::Stock;
-
-// No ties have more steel in any beam.
-const MOST: u32 = 163_229_352;
 
 // A search of a beam on a pile from a stock: all bars, all ties with their steel in the beam, and the least steel of
 // ties from stock.
@@ -27,13 +25,13 @@ pub(crate) struct Search<'a, P> {
     ghost every_bars: { AllBars bars },
     ghost every_ties: { AllTies beam.now ties },
     ghost none_less: { (t : Ties) → TieIn (has stock.now) t → least ≤ ties_steel beam.now t },
-    ghost bounded: { least ≤ 163229352 },
+    ghost bounded: { least ≤ MOST },
 }
 
 // The least steel of the ties from stock, and no less than any ties have where none are.
 fn least_of(ties: &[WeighedTies; TIES], stock: &Stock) -> u32
     ensures none_less { (k : ℕ) (d : WeighedTies) → k < 69 → TieIn (has stock.now) (slice_index_or ties.now k d).ties → result ≤ (slice_index_or ties.now k d).steel }
-    ensures bounded { result ≤ 163229352 }
+    ensures bounded { result ≤ MOST }
 {
     let mut least = MOST;
     for t in ties {
