@@ -6,14 +6,15 @@ use Rattle.rebar.specs.declared.cage.Ties.{Ties}
 use Rattle.rebar.specs.Steel.{ties_steel}
 use Rattle.rebar.proofs.Same.{same_bars, same_ties}
 use Rattle.stock.specs.declared.kind.Kind.{Kind}
+use Rattle.search.specs.declared.places.TheConstants.{BARS, TIES}
 use Rattle.search.specs.declared.weighed_ties.WeighedTies.{WeighedTies}
 use Rattle.search.specs.Search.{TieIn, AllBars, AllTies, bars_place, ties_place}
 
--- there are 99 places of bars and 69 of ties
-pub bars_place_lt : (a : Bars) → bars_place a < 99
+-- every bars and every ties have a place
+pub bars_place_lt : (a : Bars) → bars_place a < BARS
 bars_place_lt a = omega arith
 
-pub ties_place_lt : (a : Ties) → ties_place a < 69
+pub ties_place_lt : (a : Ties) → ties_place a < TIES
 ties_place_lt a = omega arith
 
 -- the bars at a place are the only ones, and so are the ties
@@ -27,17 +28,17 @@ same_ties_place a b e =
     same_ties a b m (omega (arith, a.spaced.2, b.spaced.2))
 
 -- the list of all has them there
-pub bars_here : (bars : List Bars) → AllBars bars → (k : ℕ) (t : Bars) → k < 99
+pub bars_here : (bars : List Bars) → AllBars bars → (k : ℕ) (t : Bars) → k < BARS
     → (b : Bars) → bars_place b ≡ k → b ≡ get_or bars k t
 bars_here bars all k t lt b e = same_bars_place b (get_or bars k t) (e ∙ sym (all k t lt))
 
-pub ties_here : (beam : Beam) (ties : List WeighedTies) → AllTies beam ties → (k : ℕ) (t : WeighedTies) → k < 69
+pub ties_here : (beam : Beam) (ties : List WeighedTies) → AllTies beam ties → (k : ℕ) (t : WeighedTies) → k < TIES
     → (b : Ties) → ties_place b ≡ k → b ≡ (get_or ties k t).ties
 ties_here beam ties all k t lt b e = same_ties_place b (get_or ties k t).ties (e ∙ sym (all k t lt).0)
 
 -- what bounds the steel of the listed ties from stock bounds that of all ties from stock
 pub bound_of_listed : (got : Kind → ℕ → Bool) (beam : Beam) (ties : List WeighedTies) (least : ℕ) → AllTies beam ties
-    → ((k : ℕ) (d : WeighedTies) → k < 69 → TieIn got (get_or ties k d).ties → least ≤ (get_or ties k d).steel)
+    → ((k : ℕ) (d : WeighedTies) → k < TIES → TieIn got (get_or ties k d).ties → least ≤ (get_or ties k d).steel)
     → (t : Ties) → TieIn got t → least ≤ ties_steel beam t
 bound_of_listed got beam ties least all below t is_in =
     let d : WeighedTies = record { ties = t; steel = 0; bounded = lit≤ tt } in

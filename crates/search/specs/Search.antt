@@ -12,6 +12,7 @@ use Rattle.stock.specs.declared.kind.Kind.TheVariants.{Main, Tie}
 use Rattle.search.specs.declared.decision.Choice.{Choice}
 use Rattle.search.specs.declared.decision.Decision.{Decision}
 use Rattle.search.specs.declared.decision.Decision.TheVariants.{Chosen, Impossible}
+use Rattle.search.specs.declared.places.TheConstants.{BARS, TIES}
 use Rattle.search.specs.declared.weighed_ties.WeighedTies.{WeighedTies}
 use Rattle.search.specs.Lightest.{FromStock}
 
@@ -54,12 +55,12 @@ ties_place ties = (ties.mark - 3) * 23 + (ties.spacing / 25 - 2)
 
 -- all bars of a face, each at its place
 abbrev pub AllBars : List Bars → Type 0
-AllBars bars = (k : ℕ) (d : Bars) → k < 99 → bars_place (slice_index_or bars k d) ≡ k
+AllBars bars = (k : ℕ) (d : Bars) → k < BARS → bars_place (slice_index_or bars k d) ≡ k
 
 -- all ties, each at its place and with its steel in the beam
 abbrev pub AllTies : Beam → List WeighedTies → Type 0
 AllTies beam ties =
-    (k : ℕ) (d : WeighedTies) → k < 69 → (ties_place (slice_index_or ties k d).ties ≡ k) × ((slice_index_or ties k d).steel ≡ ties_steel beam (slice_index_or ties k d).ties)
+    (k : ℕ) (d : WeighedTies) → k < TIES → (ties_place (slice_index_or ties k d).ties ≡ k) × ((slice_index_or ties k d).steel ≡ ties_steel beam (slice_index_or ties k d).ties)
 
 -- the decision is right with regard to all cages of which P holds
 abbrev pub Done : (Beam → Cage → ℕ) → Beam → (Cage → Type 0) → Decision → Type 0

@@ -14,7 +14,7 @@ pub(crate) const TIES: usize = 69;
 
 // The bars of a face at a place: by mark and then by number.
 fn bars_at(k: usize) -> Bars
-    requires { k < 99 }
+    requires { k < BARS }
     ensures { bars_place result ≡ k }
 {
     Bars {
@@ -25,7 +25,7 @@ fn bars_at(k: usize) -> Bars
 
 // The ties at a place: by mark and then by spacing.
 fn ties_at(k: usize) -> Ties
-    requires { k < 69 }
+    requires { k < TIES }
     ensures { ties_place result ≡ k }
 {
     Ties {

@@ -30,7 +30,7 @@ pub(crate) struct Search<'a, P> {
 
 // The least steel of the ties from stock, and no less than any ties have where none are.
 fn least_of(ties: &[WeighedTies; TIES], stock: &Stock) -> u32
-    ensures none_less { (k : ℕ) (d : WeighedTies) → k < 69 → TieIn (has stock.now) (slice_index_or ties.now k d).ties → result ≤ (slice_index_or ties.now k d).steel }
+    ensures none_less { (k : ℕ) (d : WeighedTies) → k < TIES → TieIn (has stock.now) (slice_index_or ties.now k d).ties → result ≤ (slice_index_or ties.now k d).steel }
     ensures bounded { result ≤ MOST }
 {
     let mut least = MOST;
