@@ -5,17 +5,16 @@ use Rattle.rebar.specs.declared.cage.Bars.{Bars}
 use Rattle.rebar.specs.declared.cage.Ties.{Ties}
 use Rattle.rebar.specs.declared.cage.Cage.{Cage}
 use Rattle.rebar.specs.Order.{numbers, Before}
-use Rattle.rebar.specs.Steel.{steel, ties_steel}
+use Rattle.rebar.specs.Steel.{steel}
 use Rattle.books.specs.Answers.{Passes}
 use Rattle.stock.specs.declared.kind.Kind.{Kind}
 use Rattle.stock.specs.declared.kind.Kind.TheVariants.{Main, Tie}
 use Rattle.search.specs.declared.decision.Choice.{Choice}
 use Rattle.search.specs.declared.decision.Decision.{Decision}
 use Rattle.search.specs.declared.decision.Decision.TheVariants.{Chosen, Impossible}
-use Rattle.search.specs.declared.places.TheConstants.{BARS, TIES}
-use Rattle.search.specs.declared.weighed_ties.WeighedTies.{WeighedTies}
 use Rattle.search.specs.Lightest.{FromStock}
 
+-- the mark of these bars, and of these ties, is in, where `got` says which are
 abbrev pub MainIn : (Kind → ℕ → Bool) → Bars → Type 0
 MainIn got bars = T (got Main bars.mark)
 
@@ -53,14 +52,9 @@ bars_place bars = (bars.mark - 3) * 11 + (bars.number - 2)
 abbrev pub ties_place : Ties → ℕ
 ties_place ties = (ties.mark - 3) * 23 + (ties.spacing / 25 - 2)
 
--- all bars of a face, each at its place
-abbrev pub AllBars : List Bars → Type 0
-AllBars bars = (k : ℕ) (d : Bars) → k < BARS → bars_place (slice_index_or bars k d) ≡ k
-
--- all ties, each at its place and with its steel in the beam
-abbrev pub AllTies : Beam → List WeighedTies → Type 0
-AllTies beam ties =
-    (k : ℕ) (d : WeighedTies) → k < TIES → (ties_place (slice_index_or ties k d).ties ≡ k) × ((slice_index_or ties k d).steel ≡ ties_steel beam (slice_index_or ties k d).ties)
+-- the list has n elements, each at its place
+abbrev pub IsByPlace : {X : Type 0} → (X → ℕ) → List X → ℕ → Type 0
+IsByPlace {X} place xs n = (k : ℕ) (d : X) → k < n → place (slice_index_or xs k d) ≡ k
 
 -- the decision is right with regard to all cages of which P holds
 abbrev pub Done : (Beam → Cage → ℕ) → Beam → (Cage → Type 0) → Decision → Type 0

@@ -1,5 +1,7 @@
 ghost use Rattle.std.specs.Prelude.{◌≡◌, ◌<◌};
-ghost use Rattle.search.specs.Search.{bars_place, ties_place, AllBars, AllTies};
+ghost use Rattle.std.specs.List.{AllWithin};
+ghost use Rattle.rebar.specs.Steel.{ties_steel};
+ghost use Rattle.search.specs.Search.{bars_place, ties_place, IsByPlace};
 
 use crate::weighed_ties::WeighedTies;
 use rebar::beam::Beam;
@@ -36,14 +38,15 @@ fn ties_at(k: usize) -> Ties
 
 // All bars of a face, in the order of their places.
 pub(crate) fn all_bars() -> [Bars; BARS]
-    ensures { AllBars result }
+    ensures { IsByPlace bars_place result BARS }
 {
     array::from_fn(bars_at)
 }
 
 // All ties with their steel in a beam, in the order of their places.
 pub(crate) fn all_ties(beam: &Beam) -> [WeighedTies; TIES]
-    ensures { AllTies beam.now result }
+    ensures by_place { IsByPlace (λ t. ties_place t.ties) result TIES }
+    ensures weighed { AllWithin (λ t. t.steel ≡ ties_steel beam.now t.ties) result 0 TIES }
 {
     array::from_fn(|k| {
         let ties = ties_at(k);

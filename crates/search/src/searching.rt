@@ -1,10 +1,11 @@
-ghost use Rattle.std.specs.Prelude.{◌≡◌, ℕ, ◌<◌, ◌≤◌, slice_index_or};
+ghost use Rattle.std.specs.Prelude.{◌≡◌, ◌≤◌};
+ghost use Rattle.std.specs.List.{AllWithin};
 ghost use Rattle.rebar.specs.Steel.{ties_steel};
 ghost use Rattle.rebar.specs.declared.cage.Ties.{Ties};
 ghost use Rattle.stock.specs.Stock.{has};
+ghost use Rattle.search.specs.declared.places.TheConstants.{BARS, TIES};
 ghost use Rattle.search.specs.declared.weighed_ties.TheConstants.{MOST};
-ghost use Rattle.search.specs.declared.weighed_ties.WeighedTies.{WeighedTies};
-ghost use Rattle.search.specs.Search.{TieIn, AllBars, AllTies};
+ghost use Rattle.search.specs.Search.{TieIn, bars_place, ties_place, IsByPlace};
 
 use crate::places::{BARS, TIES, all_bars, all_ties};
 use crate::weighed_ties::{MOST, WeighedTies};
@@ -22,15 +23,16 @@ pub(crate) struct Search<'a, P> {
     pub(crate) bars: [Bars; BARS],
     pub(crate) ties: [WeighedTies; TIES],
     pub(crate) least: u32,
-    ghost every_bars: { AllBars bars },
-    ghost every_ties: { AllTies beam.now ties },
+    ghost every_bars: { IsByPlace bars_place bars BARS },
+    ghost every_ties: { IsByPlace (λ t. ties_place t.ties) ties TIES },
+    ghost weighed: { AllWithin (λ t. t.steel ≡ ties_steel beam.now t.ties) ties 0 TIES },
     ghost none_less: { (t : Ties) → TieIn (has stock.now) t → least ≤ ties_steel beam.now t },
     ghost bounded: { least ≤ MOST },
 }
 
 // The least steel of the ties from stock, and no less than any ties have where none are.
 fn least_of(ties: &[WeighedTies; TIES], stock: &Stock) -> u32
-    ensures none_less { (k : ℕ) (d : WeighedTies) → k < TIES → TieIn (has stock.now) (slice_index_or ties.now k d).ties → result ≤ (slice_index_or ties.now k d).steel }
+    ensures none_less { AllWithin (λ t. TieIn (has stock.now) t.ties → result ≤ t.steel) ties.now 0 TIES }
     ensures bounded { result ≤ MOST }
 {
     let mut least = MOST;

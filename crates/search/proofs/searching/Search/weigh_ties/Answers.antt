@@ -14,7 +14,7 @@ loop-t-preserved g c =
     let top = c.args.top.now in
     let asked = c.args.self.now in
     let got = has asked.stock.now in
-    let here = ties_here asked.beam.now asked.ties asked.every_ties c.loop-t.t-index c.t-item.result (omega arith) in
+    let here = ties_here asked.ties asked.every_ties c.loop-t.t-index c.t-item.result (omega arith) in
     elim c.if-has_ties.branch [
       | then-has_ties w ↦
           let cage : Cage = record { bottom = bottom; top = top; ties = (get_or asked.ties c.loop-t.t-index c.t-item.result).ties } in
