@@ -14,7 +14,7 @@ pub(crate) const BARS: usize = 99;
 // How many ties there are: three marks, each at 23 spacings.
 pub(crate) const TIES: usize = 69;
 
-// The bars of a face at a place: by mark and then by number.
+// The bars of a face at a place, by mark and then by number.
 fn bars_at(k: usize) -> Bars
     requires { k < BARS }
     ensures { bars_place result ≡ k }
@@ -25,15 +25,18 @@ fn bars_at(k: usize) -> Bars
     }
 }
 
-// The ties at a place: by mark and then by spacing.
-fn ties_at(k: usize) -> Ties
+// The ties at a place, by mark and then by spacing, with their steel in a beam.
+fn ties_at(beam: &Beam, k: usize) -> WeighedTies
     requires { k < TIES }
-    ensures { ties_place result ≡ k }
+    ensures at_place { ties_place result.ties ≡ k }
+    ensures weighed { result.steel ≡ ties_steel beam.now result.ties }
 {
-    Ties {
+    let ties = Ties {
         mark: 3 + (k / 23) as u8,
         spacing: 50 + 25 * (k % 23) as u16,
-    }
+    };
+    let steel = beam.ties_steel(&ties);
+    WeighedTies { ties, steel }
 }
 
 // All bars of a face, in the order of their places.
@@ -48,9 +51,5 @@ pub(crate) fn all_ties(beam: &Beam) -> [WeighedTies; TIES]
     ensures by_place { IsByPlace (λ t. ties_place t.ties) result TIES }
     ensures weighed { AllWithin (λ t. t.steel ≡ ties_steel beam.now t.ties) result 0 TIES }
 {
-    array::from_fn(|k| {
-        let ties = ties_at(k);
-        let steel = beam.ties_steel(&ties);
-        WeighedTies { ties, steel }
-    })
+    array::from_fn(|k| ties_at(beam, k))
 }
