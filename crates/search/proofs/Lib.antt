@@ -1,5 +1,5 @@
-pub mod Same
-pub mod Order
+pub mod Made
+pub mod PlaceLemmas
 pub mod Steps
 pub mod Loops
 pub mod One

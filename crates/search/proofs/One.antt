@@ -1,14 +1,21 @@
 -- No two decisions can both be right.
 use Rattle.std.proofs.Common.{◌≡◌, ℕ, ◌<◌, ◌≤◌, Bool, ◌⊎◌, sym, ap, ◌∙◌, inl, inr, arith}
+use mathlib.Core.HLevel.{is_prop→PathP}
+use native.Mathlib.Bridge.{le_prop}
 use Rattle.rebar.specs.declared.beam.Beam.{Beam}
 use Rattle.rebar.specs.declared.cage.Cage.{Cage}
 use Rattle.rebar.specs.Steel.{steel}
 use Rattle.stock.specs.declared.kind.Kind.{Kind}
+use Rattle.search.specs.declared.decision.Choice.{Choice}
 use Rattle.search.specs.declared.decision.Decision.{Decision}
 use Rattle.search.specs.declared.decision.Decision.TheVariants.{Chosen, Impossible}
 use Rattle.search.specs.Lightest.{Better, Lightest}
 use Rattle.rebar.proofs.Same.{same_bars, same_ties, same_cage}
-use Rattle.search.proofs.Same.{same_choice}
+
+-- choices of the same cage and steel are the same
+same_choice : (a b : Choice) → a.cage ≡ b.cage → a.steel ≡ b.steel → a ≡ b
+same_choice a b p q =
+    λ i. record { cage = p i; steel = q i; light = is_prop→PathP (λ j. q j < 500000000) (λ j. le_prop) a.light b.light i }
 
 -- where neither of two lists comes before the other, the first numbers are equal, and neither rest comes before the other
 level : {P Q : Type 0} (x y : ℕ) → ((x < y) ⊎ ((x ≡ y) × P) → ⊥) → ((y < x) ⊎ ((y ≡ x) × Q) → ⊥) → (x ≡ y) × (P → ⊥) × (Q → ⊥)

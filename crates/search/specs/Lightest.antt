@@ -1,7 +1,8 @@
 -- What the lightest cage from stock is.
-use Rattle.std.specs.Prelude.{◌≡◌, ℕ, ◌<◌, ◌≤◌, Bool, T, ◌⊎◌, List, [], ◌∷◌}
+use Rattle.std.specs.Prelude.{◌≡◌, ℕ, ◌≤◌, Bool, T, ◌⊎◌, ◌∷◌}
 use Rattle.rebar.specs.declared.beam.Beam.{Beam}
 use Rattle.rebar.specs.declared.cage.Cage.{Cage}
+use Rattle.rebar.specs.Order.{numbers, Before}
 use Rattle.rebar.specs.Steel.{steel}
 use Rattle.books.specs.Answers.{Passes}
 use Rattle.stock.specs.declared.kind.Kind.{Kind}
@@ -12,18 +13,6 @@ use Rattle.search.specs.declared.decision.Decision.TheVariants.{Chosen, Impossib
 -- the marks of all its bars are in, where `got` says which are
 abbrev pub FromStock : (Kind → ℕ → Bool) → Cage → Type 0
 FromStock got cage = T (got Main cage.bottom.mark) × T (got Main cage.top.mark) × T (got Tie cage.ties.mark)
-
--- the first number that differs is the smaller, as words stand in a dictionary
-abbrev pub Before : List ℕ → List ℕ → Type 0
-Before [] [] = ⊥
-Before [] (y ∷ ys) = Unit {0}
-Before (x ∷ xs) [] = ⊥
-Before (x ∷ xs) (y ∷ ys) = (x < y) ⊎ ((x ≡ y) × Before xs ys)
-
--- the six numbers of a cage, in their order
-abbrev pub numbers : Cage → List ℕ
-numbers cage =
-    cage.bottom.mark ∷ cage.bottom.number ∷ cage.top.mark ∷ cage.top.number ∷ cage.ties.mark ∷ cage.ties.spacing ∷ []
 
 -- d has less steel than c, or as much and is smaller by its six numbers
 abbrev pub Better : Beam → Cage → Cage → Type 0

@@ -1,18 +1,20 @@
 -- What the steps of the search keep. A reader of the public contracts needs none of this.
-use Rattle.std.specs.Prelude.{◌≡◌, ℕ, ◌+◌, ◌-◌, ◌*◌, ◌/◌, ◌<◌, ◌≤◌, Bool, T, ◌⊎◌, List, ◌∷◌, slice_index}
+use Rattle.std.specs.Prelude.{◌≡◌, ℕ, ◌+◌, ◌-◌, ◌*◌, ◌/◌, ◌<◌, ◌≤◌, Bool, T, ◌⊎◌, List, ◌∷◌, slice_index_or}
 use Rattle.rebar.specs.declared.beam.Beam.{Beam}
 use Rattle.rebar.specs.declared.cage.Bars.{Bars}
 use Rattle.rebar.specs.declared.cage.Ties.{Ties}
 use Rattle.rebar.specs.declared.cage.Cage.{Cage}
-use Rattle.rebar.specs.Steel.{steel, ties_steel}
+use Rattle.rebar.specs.Order.{numbers, Before}
+use Rattle.rebar.specs.Steel.{steel}
 use Rattle.books.specs.Answers.{Passes}
 use Rattle.stock.specs.declared.kind.Kind.{Kind}
 use Rattle.stock.specs.declared.kind.Kind.TheVariants.{Main, Tie}
 use Rattle.search.specs.declared.decision.Choice.{Choice}
 use Rattle.search.specs.declared.decision.Decision.{Decision}
 use Rattle.search.specs.declared.decision.Decision.TheVariants.{Chosen, Impossible}
-use Rattle.search.specs.Lightest.{FromStock, Before, numbers}
+use Rattle.search.specs.Lightest.{FromStock}
 
+-- the mark of these bars, and of these ties, is in, where `got` says which are
 abbrev pub MainIn : (Kind → ℕ → Bool) → Bars → Type 0
 MainIn got bars = T (got Main bars.mark)
 
@@ -44,16 +46,15 @@ Outweighs floor (Chosen x) = x.steel < floor
 Outweighs floor (Impossible n) = ⊥
 
 -- the place of a face's bars, and of ties, in the order of the search
-unfoldable pub bars_place : Bars → ℕ
+abbrev pub bars_place : Bars → ℕ
 bars_place bars = (bars.mark - 3) * 11 + (bars.number - 2)
 
-unfoldable pub ties_place : Ties → ℕ
+abbrev pub ties_place : Ties → ℕ
 ties_place ties = (ties.mark - 3) * 23 + (ties.spacing / 25 - 2)
 
--- the table holds the steel of the ties t, and its least is no more than that where they are from stock
-abbrev pub Listed : (Kind → ℕ → Bool) → Beam → List ℕ → ℕ → Ties → Type 0
-Listed got beam each least t =
-    (slice_index each (ties_place t) ≡ ties_steel beam t) × (ties_steel beam t ≤ 163229352) × (TieIn got t → least ≤ ties_steel beam t)
+-- the list has n elements, each at its place
+abbrev pub IsByPlace : {X : Type 0} → (X → ℕ) → List X → ℕ → Type 0
+IsByPlace {X} place xs n = (k : ℕ) (d : X) → k < n → place (slice_index_or xs k d) ≡ k
 
 -- the decision is right with regard to all cages of which P holds
 abbrev pub Done : (Beam → Cage → ℕ) → Beam → (Cage → Type 0) → Decision → Type 0

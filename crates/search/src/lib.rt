@@ -4,5 +4,6 @@
 pub mod decision; // a chosen cage with its steel, or the number of an impossible beam
 pub mod lightest; // the lightest cage from stock that passes
 mod places; // all bars of a face and all ties, in the order of the search
-mod tie_steel; // the steel of all ties in a beam
+mod searching; // what a search asks, and what it knows before its first question
+mod weighed_ties; // ties with their steel in a beam
 mod weighing; // one cage more to a decision

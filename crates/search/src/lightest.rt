@@ -1,111 +1,95 @@
 ghost use Rattle.std.specs.Prelude.{◌≡◌};
-ghost use Rattle.rebar.specs.declared.cage.Ties.{Ties};
 ghost use Rattle.stock.specs.Stock.{has};
 ghost use Rattle.search.specs.declared.decision.Decision.{Decision};
-ghost use Rattle.search.specs.Lightest.{Lightest};
-ghost use Rattle.search.specs.Search.{MainIn, Step, Listed, Done, OfPair, OfBottom};
+ghost use Rattle.search.specs.Lightest.{FromStock, Lightest};
+ghost use Rattle.search.specs.Search.{MainIn, Step, Done, OfPair, OfBottom};
 
 use crate::decision::{Choice, Decision};
-use crate::places::{BARS, TIES, bars_at, ties_at};
-use crate::tie_steel::TieSteel;
-use crate::weighing::{is_outweighed, weigh};
+use crate::searching::Search;
 use books::book::Book;
 use rebar::beam::Beam;
 use rebar::cage::{Bars, Cage};
 use stock::stock::Stock;
 
-// The decision with the cages of one bottom and one top; with no look at them where the lightest ties from stock
-// would make too heavy a cage.
-fn weigh_ties<P: Book>(
-    pile: &P,
-    beam: &Beam,
-    stock: &Stock,
-    table: &TieSteel,
-    bottom: Bars,
-    top: Bars,
-    best: Decision,
-) -> Decision
-    requires bottoms { MainIn (has stock.now) bottom }
-    requires tops { MainIn (has stock.now) top }
-    requires listed { (t : Ties) → Listed (has stock.now) beam.now table.now.each table.now.least t }
-    ensures step { Step (P.Book.answer pile.now) (has stock.now) beam.now best result }
-    ensures done { Done (P.Book.answer pile.now) beam.now (OfPair (has stock.now) bottom top) result }
-{
-    let main = beam.bars_steel(&bottom) + beam.bars_steel(&top);
-    if is_outweighed(main + table.least, &best) {
-        return best;
-    }
-    let mut found = best;
-    for k in 0..TIES {
-        let ties = ties_at(k);
-        if stock.has_ties(&ties) {
-            let cage = Cage { bottom, top, ties };
-            let steel = main + table.each[k];
-            found = weigh(pile, beam, Choice { cage, steel }, found);
+impl<P: Book> Search<'_, P> {
+    // The decision with the cages of one bottom and one top; with no look at them where the lightest ties from stock
+    // would make too heavy a cage.
+    fn weigh_ties(&self, bottom: &Bars, top: &Bars, best: Decision) -> Decision
+        requires bottom_in { MainIn (has self.now.stock.now) bottom.now }
+        requires top_in { MainIn (has self.now.stock.now) top.now }
+        ensures step { Step (P.answer self.now.pile.now) (has self.now.stock.now) self.now.beam.now best result }
+        ensures done { Done (P.answer self.now.pile.now) self.now.beam.now (OfPair (has self.now.stock.now) bottom.now top.now) result }
+    {
+        let main = self.beam.bars_steel(bottom) + self.beam.bars_steel(top);
+        if best.outweighs(main + self.least) {
+            return best;
         }
+        let mut found = best;
+        for t in &self.ties {
+            if self.stock.has_ties(&t.ties) {
+                let cage = Cage {
+                    bottom: *bottom,
+                    top: *top,
+                    ties: t.ties,
+                };
+                let steel = main + t.steel;
+                found = self.weigh(Choice { cage, steel }, found);
+            }
+        }
+        found
     }
-    found
-}
 
-// The decision with the cages of one bottom.
-fn weigh_tops<P: Book>(
-    pile: &P,
-    beam: &Beam,
-    stock: &Stock,
-    table: &TieSteel,
-    bottom: Bars,
-    best: Decision,
-) -> Decision
-    requires bottoms { MainIn (has stock.now) bottom }
-    requires listed { (t : Ties) → Listed (has stock.now) beam.now table.now.each table.now.least t }
-    ensures step { Step (P.Book.answer pile.now) (has stock.now) beam.now best result }
-    ensures done { Done (P.Book.answer pile.now) beam.now (OfBottom (has stock.now) bottom) result }
-{
-    let mut found = best;
-    for j in 0..BARS {
-        let top = bars_at(j);
-        if stock.has_bars(&top) {
-            found = weigh_ties(pile, beam, stock, table, bottom, top, found);
+    // The decision with the cages of one bottom.
+    fn weigh_tops(&self, bottom: &Bars, best: Decision) -> Decision
+        requires { MainIn (has self.now.stock.now) bottom.now }
+        ensures step { Step (P.answer self.now.pile.now) (has self.now.stock.now) self.now.beam.now best result }
+        ensures done { Done (P.answer self.now.pile.now) self.now.beam.now (OfBottom (has self.now.stock.now) bottom.now) result }
+    {
+        let mut found = best;
+        for top in &self.bars {
+            if self.stock.has_bars(top) {
+                found = self.weigh_ties(bottom, top, found);
+            }
         }
+        found
     }
-    found
-}
 
-// The decision with the cages whose bottom and top are equal: a first guess, after which most other cages are too
-// heavy to be looked at.
-fn weigh_twins<P: Book>(
-    pile: &P,
-    beam: &Beam,
-    stock: &Stock,
-    table: &TieSteel,
-    best: Decision,
-) -> Decision
-    requires listed { (t : Ties) → Listed (has stock.now) beam.now table.now.each table.now.least t }
-    ensures { Step (P.Book.answer pile.now) (has stock.now) beam.now best result }
-{
-    let mut found = best;
-    for i in 0..BARS {
-        let bars = bars_at(i);
-        if stock.has_bars(&bars) {
-            found = weigh_ties(pile, beam, stock, table, bars, bars, found);
+    // The decision with the cages whose bottom and top are equal: a first guess, after which most other cages are too
+    // heavy to be looked at.
+    fn weigh_twins(&self, best: Decision) -> Decision
+        ensures { Step (P.answer self.now.pile.now) (has self.now.stock.now) self.now.beam.now best result }
+    {
+        let mut found = best;
+        for bars in &self.bars {
+            if self.stock.has_bars(bars) {
+                found = self.weigh_ties(bars, bars, found);
+            }
         }
+        found
     }
-    found
+
+    // The decision with all cages.
+    fn weigh_bottoms(&self, best: Decision) -> Decision
+        ensures step { Step (P.answer self.now.pile.now) (has self.now.stock.now) self.now.beam.now best result }
+        ensures done { Done (P.answer self.now.pile.now) self.now.beam.now (FromStock (has self.now.stock.now)) result }
+    {
+        let mut found = best;
+        for bottom in &self.bars {
+            if self.stock.has_bars(bottom) {
+                found = self.weigh_tops(bottom, found);
+            }
+        }
+        found
+    }
 }
 
 // The lightest cage from stock that the pile passes for the beam, of equals the smallest; or where none passes, the
 // greatest number with which the pile refuses one.
 pub fn design<P: Book>(pile: &P, beam: &Beam, stock: &Stock) -> Decision
-    ensures lightest_or_none { Lightest (P.Book.answer pile.now) (has stock.now) beam.now result }
-    ensures decision_is_the_only_one { (s : Decision) → Lightest (P.Book.answer pile.now) (has stock.now) beam.now s → s ≡ result }
+    ensures lightest_or_none { Lightest (P.answer pile.now) (has stock.now) beam.now result }
+    ensures decision_is_the_only_one { (s : Decision) → Lightest (P.answer pile.now) (has stock.now) beam.now s → s ≡ result }
 {
-    let table = TieSteel::of(beam, stock);
-    let mut found = weigh_twins(pile, beam, stock, &table, Decision::Impossible(0));
-    for i in 0..BARS {
-        let bottom = bars_at(i);
-        if stock.has_bars(&bottom) {
-            found = weigh_tops(pile, beam, stock, &table, bottom, found);
-        }
-    }
-    found
+    let search = Search::new(pile, beam, stock);
+    let guess = search.weigh_twins(Decision::Impossible(0));
+    search.weigh_bottoms(guess)
 }
