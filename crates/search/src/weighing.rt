@@ -13,7 +13,7 @@ impl Choice {
     fn is_lighter(&self, other: &Choice) -> bool
         ensures { IsTrue result ↔ Lighter self.now.steel self.now.cage other.now }
     {
-        self.steel < other.steel || self.steel == other.steel && self.cage < other.cage
+        self.steel < other.steel || self.steel == other.steel && self.cage.is_smaller(&other.cage)
     }
 }
 
