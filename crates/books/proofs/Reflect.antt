@@ -45,6 +45,7 @@ first_broken-Tells (a ∷ rest) n =
 pub tells : (l : List Article) (r : ℕ) → numbered l ≡ true → r ≡ first_broken l → Tells l r
 tells l r n e = subst (λ (x : ℕ). Tells l x) (sym e) (first_broken-Tells l n)
 
+-- an article before the first of two lists changes nothing in how the second stands over it
 over_later : (t : Bool) (n x y own : ℕ) → ltb 0 n ≡ true → x ≡ over y own → cond t x n ≡ over (cond t y n) own
 over_later t n x y own some e = grind (arith, nat_tests)
 

@@ -51,16 +51,20 @@ fn loss_of(bars: &Bars) -> u64
     ((bars.diameter() as u64 + 250) * (number / 2)).div_ceil(number)
 }
 
-// How the bars of a face lie: in one row or two, and whether the outer row fits inside the ties.
+// How the bars of a face lie in a beam: in one row or two, and whether the outer row fits inside the ties.
 #[derive(Clone, Copy)]
-struct Layout {
+struct Layout<'a> {
+    beam: &'a Beam,
+    ties: &'a Ties,
+    bars: &'a Bars,
     rows: u64,
     fits: bool,
     ghost counted: { (1 ≤ rows) × (rows ≤ 2) },
 }
 
-impl Layout {
-    fn of(beam: &Beam, ties: &Ties, bars: &Bars) -> Layout
+impl<'a> Layout<'a> {
+    fn of(beam: &'a Beam, ties: &'a Ties, bars: &'a Bars) -> Layout<'a>
+        ensures of_these { (result.beam.now ≡ beam.now) × (result.ties.now ≡ ties.now) × (result.bars.now ≡ bars.now) }
         ensures rows { result.rows ≡ rows_of beam.now.section beam.now.materials ties.now bars.now }
         ensures fits { result.fits ≡ test (outer_row_fits beam.now.section beam.now.materials ties.now bars.now) }
     {
@@ -68,31 +72,35 @@ impl Layout {
         let number = bars.number as u64;
         let one_row = row_of(beam, bars, number) <= room;
         Layout {
+            beam,
+            ties,
+            bars,
             rows: if one_row { 1 } else { 2 },
             fits: one_row || row_of(beam, bars, number.div_ceil(2)) <= room,
         }
     }
 
     // The effective depth of the face, in tenths.
-    fn depth(&self, beam: &Beam, ties: &Ties, bars: &Bars) -> u64
-        ensures is { result ≡ effective_depth beam.now.section ties.now bars.now self.now.rows }
+    fn depth(&self) -> u64
+        ensures is { result ≡ effective_depth self.now.beam.now.section self.now.ties.now self.now.bars.now self.now.rows }
         ensures small { result ≤ 8800 }
     {
-        let straight = 10 * beam.section.height as u64
-            - 10 * beam.section.cover as u64
-            - ties.diameter() as u64
-            - (bars.diameter() as u64).div_ceil(2);
-        straight - (self.rows - 1) * loss_of(bars)
+        let section = &self.beam.section;
+        let straight = 10 * section.height as u64
+            - 10 * section.cover as u64
+            - self.ties.diameter() as u64
+            - (self.bars.diameter() as u64).div_ceil(2);
+        straight - (self.rows - 1) * loss_of(self.bars)
     }
 
     // How deep the rows stand into the section, in tenths.
-    fn thickness(&self, beam: &Beam, ties: &Ties, bars: &Bars) -> u64
-        ensures is { result ≡ rows_depth beam.now.section ties.now bars.now self.now.rows }
+    fn thickness(&self) -> u64
+        ensures is { result ≡ rows_depth self.now.beam.now.section self.now.ties.now self.now.bars.now self.now.rows }
         ensures small { result ≤ 1875 }
     {
-        10 * beam.section.cover as u64
-            + ties.diameter() as u64
-            + bars.diameter() as u64 * self.rows
+        10 * self.beam.section.cover as u64
+            + self.ties.diameter() as u64
+            + self.bars.diameter() as u64 * self.rows
             + 250 * (self.rows - 1)
     }
 }
@@ -121,10 +129,10 @@ impl Face {
         let layout = Layout::of(beam, ties, bars);
         Face {
             fits: layout.fits,
-            thickness: layout.thickness(beam, ties, bars),
+            thickness: layout.thickness(),
             area: bars.area() as u64,
             force: force_of(beam, bars),
-            depth: layout.depth(beam, ties, bars),
+            depth: layout.depth(),
         }
     }
 

@@ -1,12 +1,12 @@
 ghost use Rattle.std.specs.Prelude.{◌≡◌};
 ghost use Rattle.sheet.specs.Places.{uses, opened, reopened, shown_by};
 
+use crate::change::Change;
 use crate::reading::Shown;
 use rebar::beam::Beam;
 use rebar::cage::Cage;
 use search::decision::Decision;
 use stock::kind::Kind;
-use stock::stock_mark::StockMark;
 
 // A beam on the sheet with its decision. It is open until it is decided, and open again when its decision may no
 // longer be right.
@@ -16,13 +16,16 @@ pub(crate) struct Entry {
     pub(crate) decision: Option<Decision>,
 }
 
-// Whether a cage has a bar of this mark in its kind.
-fn uses_mark(cage: &Cage, item: &StockMark) -> bool
-    ensures { result ≡ uses item.now.kind item.now.mark cage.now }
-{
-    match item.kind {
-        Kind::Main => cage.bottom.mark == item.mark || cage.top.mark == item.mark,
-        Kind::Tie => cage.ties.mark == item.mark,
+impl Change {
+    // Whether a cage has a bar of the mark in its kind.
+    fn is_of(&self, cage: &Cage) -> bool
+        ensures { result ≡ uses self.now.item.kind self.now.item.mark cage.now }
+    {
+        let mark = self.item.mark;
+        match self.item.kind {
+            Kind::Main => cage.bottom.mark == mark || cage.top.mark == mark,
+            Kind::Tie => cage.ties.mark == mark,
+        }
     }
 }
 
@@ -38,11 +41,11 @@ impl Entry {
     }
 
     // The entry after a mark came in or went out.
-    pub(crate) fn reopened(&self, item: &StockMark, is_in: bool) -> Entry
-        ensures { result ≡ reopened item.now.kind item.now.mark is_in self.now }
+    pub(crate) fn reopened(&self, change: &Change) -> Entry
+        ensures { result ≡ reopened change.now.item.kind change.now.item.mark change.now.is_in self.now }
     {
         match &self.decision {
-            Some(Decision::Chosen(choice)) if !is_in && !uses_mark(&choice.cage, item) => *self,
+            Some(Decision::Chosen(choice)) if !change.is_in && !change.is_of(&choice.cage) => *self,
             _ => Entry::open(self.beam),
         }
     }

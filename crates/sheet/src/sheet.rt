@@ -1,6 +1,7 @@
 ghost use Rattle.std.specs.Prelude.{◌≡◌};
 ghost use Rattle.sheet.specs.Calls.{New, Enters, Stocks, Designs, Reads};
 
+use crate::change::Change;
 use crate::entry::Entry;
 use crate::place::Place;
 use crate::reading::{Reading, Shown};
@@ -55,7 +56,7 @@ impl<P: Book> Sheet<P> {
         ensures mark_set_or_nothing_changed { Stocks kind mark is_in self.old.table result self.new.table }
     {
         let item = StockMark::new(kind, mark).ok_or(Refusal::NoSuchMark)?;
-        self.table.restock(&item, is_in);
+        self.table.restock(&Change { item, is_in });
         Ok(())
     }
 

@@ -2,12 +2,12 @@ ghost use Rattle.std.specs.Prelude.{◌≡◌, map};
 ghost use Rattle.sheet.specs.Places.{place_reopened};
 ghost use Rattle.sheet.specs.Table.{place_at, with_place, restocked, settled};
 
+use crate::change::Change;
 use crate::entry::Entry;
 use crate::place::Place;
 use rebar::beam::Beam;
 use search::decision::Decision;
 use stock::stock::Stock;
-use stock::stock_mark::StockMark;
 
 // The places of a sheet, the marks in stock, and how many designs were made.
 #[derive(Drop)]
@@ -18,18 +18,18 @@ pub(crate) struct Table {
 }
 
 // What a place holds after a mark came in or went out.
-fn reopened_place(held: Option<Entry>, item: &StockMark, is_in: bool) -> Option<Entry>
-    ensures { result ≡ place_reopened item.now.kind item.now.mark is_in held }
+fn reopened_place(held: Option<Entry>, change: &Change) -> Option<Entry>
+    ensures { result ≡ place_reopened change.now.item.kind change.now.item.mark change.now.is_in held }
 {
-    held.map(|entry| entry.reopened(item, is_in))
+    held.map(|entry| entry.reopened(change))
 }
 
 // Reopens every beam whose decision may no longer be right.
-fn reopen(places: &mut [Option<Entry>; 64], item: &StockMark, is_in: bool)
-    ensures { places.new ≡ map (place_reopened item.now.kind item.now.mark is_in) places.old }
+fn reopen(places: &mut [Option<Entry>; 64], change: &Change)
+    ensures { places.new ≡ map (place_reopened change.now.item.kind change.now.item.mark change.now.is_in) places.old }
 {
     for place in places.iter_mut() {
-        *place = reopened_place(*place, item, is_in);
+        *place = reopened_place(*place, change);
     }
 }
 
@@ -49,14 +49,14 @@ impl Table {
     }
 
     // Sets a mark in or out.
-    pub(crate) fn restock(&mut self, item: &StockMark, is_in: bool)
-        ensures { self.new ≡ restocked item.now.kind item.now.mark is_in self.old }
+    pub(crate) fn restock(&mut self, change: &Change)
+        ensures { self.new ≡ restocked change.now.item.kind change.now.item.mark change.now.is_in self.old }
     {
-        if self.stock.holds(item) == is_in {
+        if self.stock.holds(&change.item) == change.is_in {
             return;
         }
-        reopen(&mut self.places, item, is_in);
-        self.stock.set(item, is_in);
+        reopen(&mut self.places, change);
+        self.stock.set(&change.item, change.is_in);
     }
 
     // Puts a decision at the place of its beam, and counts it.

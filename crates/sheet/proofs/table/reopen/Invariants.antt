@@ -5,4 +5,4 @@ use Rattle.sheet.proofs.table.reopen.Given as goal
 abbrev pub invariant-loop-place : goal.invariant-loop-place
 invariant-loop-place l =
     l.places
-    ≡ map (place_reopened l.item.kind l.item.mark l.is_in) (take l.place-index l.initial.places) ++ drop l.place-index l.initial.places
+    ≡ map (place_reopened l.change.item.kind l.change.item.mark l.change.is_in) (take l.place-index l.initial.places) ++ drop l.place-index l.initial.places
