@@ -64,9 +64,6 @@ pub struct Materials {
     ghost coarse: { (10 ≤ aggregate) × (aggregate ≤ 40) },
 }
 
-// The grades of steel that are made.
-const STEEL: [u16; 2] = [2800, 4200];
-
 // Whether there is concrete of this grade.
 #[tactic(auto, unfolding(crate::specs::Grades::is_concrete))]
 pub fn is_concrete(grade: u16) -> bool
@@ -80,7 +77,7 @@ pub fn is_concrete(grade: u16) -> bool
 pub fn is_steel(grade: u16) -> bool
     ensures whether_it_is_made { result ≡ is_steel grade }
 {
-    STEEL.contains(&grade)
+    [2800, 4200].contains(&grade)
 }
 
 impl Materials {

@@ -13,13 +13,10 @@ pub struct Member {
     ghost listed: { is_shear_factor shear_factor ≡ true },
 }
 
-// The strength reduction factors for shear that are used, in hundredths.
-const SHEAR_FACTORS: [u16; 2] = [60, 75];
-
 // Whether there is a shear factor of this size.
 #[tactic(auto, unfolding(crate::specs::Grades::is_shear_factor))]
 pub fn is_shear_factor(factor: u16) -> bool
     ensures whether_it_is_used { result ≡ is_shear_factor factor }
 {
-    SHEAR_FACTORS.contains(&factor)
+    [60, 75].contains(&factor)
 }
