@@ -52,7 +52,7 @@ bars_place bars = (bars.mark - 3) * 11 + (bars.number - 2)
 abbrev pub ties_place : Ties → ℕ
 ties_place ties = (ties.mark - 3) * 23 + (ties.spacing / 25 - 2)
 
--- the list has n elements, each at its place
+-- each of the first n elements stands at its place
 abbrev pub IsByPlace : {X : Type 0} → (X → ℕ) → List X → ℕ → Type 0
 IsByPlace {X} place xs n = (k : ℕ) (d : X) → k < n → place (slice_index_or xs k d) ≡ k
 
