@@ -1,18 +1,11 @@
 -- The greatest and the least of some sums, and what they say of the sums' sizes.
-use Rattle.std.proofs.Common.{◌≡◌, ℕ, ◌≤◌, max, ◌⊎◌, List, [], ◌∷◌, ◌++◌, map, ℤ, pos, negsuc, neg_ℤ, nat_abs, ◌≤ℤ◌, fold, sym, refl, ap, ◌∙◌, inl, inr, arith}
+use Rattle.std.proofs.Common.{◌≡◌, ℕ, ◌≤◌, max, ◌⊎◌, List, [], ◌∷◌, map, ℤ, pos, negsuc, neg_ℤ, nat_abs, ◌≤ℤ◌, fold, sym, refl, ap, ◌∙◌, inl, inr, arith}
 use Rattle.std.specs.Int.{int_max, int_min}
 use Rattle.std.proofs.lemmas.Int.{ints, clamps}
 use Rattle.std.proofs.ByRecursion.{folded_max_z_bounds, folded_max_z_reached, all-has}
 use Rattle.std.specs.List.{ContainsAt, AllByRecursion}
 use Rattle.loads.specs.Combinations.{greatest, least, unsigned}
 use Rattle.loads.specs.Actions.{Peak}
-
-pub folded_append : {A B : Type 0} (f : B → A → B) (a : B) (xs ys : List A) → fold f a (xs ++ ys) ≡ fold f (fold f a xs) ys
-folded_append f a [] ys = refl
-folded_append f a (x ∷ xs) ys = folded_append f (f a x) xs ys
-
-pub three : {A B : Type 0} (f : B → A → B) (a : B) (xs ys zs : List A) → fold f a (xs ++ (ys ++ zs)) ≡ fold f (fold f (fold f a xs) ys) zs
-three f a xs ys zs = folded_append f a xs (ys ++ zs) ∙ folded_append f (fold f a xs) ys zs
 
 most_up : (a : ℤ) (xs : List ℤ) → pos 0 ≤ℤ a → pos 0 ≤ℤ fold int_max a xs
 most_up a [] h = h

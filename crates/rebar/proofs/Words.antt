@@ -1,6 +1,6 @@
 -- The library's order of lists is the order of words in a dictionary, and so is that of cages.
-use Rattle.std.proofs.Common.{◌≡◌, ℕ, ◌<◌, true, Ordering, Less, Equal, Greater, List, [], ◌∷◌, inl, inr, refl, sym, ◌∙◌, subst, arith, Bool, IsTrue}
-use Rattle.std.specs.Ordering.{on, ordering_then, is_lt, MatchOrdering, nat_cmp}
+use Rattle.std.proofs.Common.{◌≡◌, ℕ, ◌<◌, Ordering, Less, Equal, Greater, List, [], ◌∷◌, inl, inr, refl, sym, subst}
+use Rattle.std.specs.Ordering.{on, ordering_then, MatchOrdering, nat_cmp}
 use Rattle.std.specs.Cmp.{ranks}
 use Rattle.std.specs.Cmp.Lexicographic.{slice_cmp}
 use Rattle.rebar.specs.declared.cage.Cage.{Cage}
@@ -21,26 +21,6 @@ by_words (x ∷ xs) (y ∷ ys) = step (nat_cmp x y) (slice_cmp nat_cmp xs ys) (r
     step Equal Equal h k = cc
     step Equal Greater h k = inr (sym h, k)
 
-pub less_by_words : (xs ys : List ℕ) → (is_lt (slice_cmp nat_cmp xs ys) ≡ true → Before xs ys) × (Before xs ys → is_lt (slice_cmp nat_cmp xs ys) ≡ true)
-less_by_words [] [] = (λ e. cc, λ b. absurd b)
-less_by_words [] (y ∷ ys) = (λ e. tt, λ b. refl)
-less_by_words (x ∷ xs) [] = (λ e. cc, λ b. absurd b)
-less_by_words (x ∷ xs) (y ∷ ys) = step (nat_cmp x y) (slice_cmp nat_cmp xs ys) (ranks x y) (less_by_words xs ys)
-  where
-    step : (o p : Ordering) → MatchOrdering o (x < y) (x ≡ y) (y < x) → (is_lt p ≡ true → Before xs ys) × (Before xs ys → is_lt p ≡ true)
-        → (is_lt (ordering_then o p) ≡ true → Before (x ∷ xs) (y ∷ ys)) × (Before (x ∷ xs) (y ∷ ys) → is_lt (ordering_then o p) ≡ true)
-    step Less p h k = (λ e. inl h, λ b. refl)
-    step Equal p h k = (λ e. inr (h, k.0 e), λ b. later b)
-      where
-        later : Before (x ∷ xs) (y ∷ ys) → is_lt p ≡ true
-        later (inl l) = absurd (omega arith)
-        later (inr l) = k.1 l.1
-    step Greater p h k = (λ e. cc, λ b. never b)
-      where
-        never : Before (x ∷ xs) (y ∷ ys) → is_lt Greater ≡ true
-        never (inl l) = absurd (omega arith)
-        never (inr l) = absurd (omega (arith, l.0))
-
 -- so of two cages
 pub smaller_cage : (c d : Cage) (r : Ordering) → r ≡ on numbers (slice_cmp nat_cmp) c d → MatchOrdering r (Smaller c d) (c ≡ d) (Smaller d c)
 smaller_cage c d r e = subst (λ o. MatchOrdering o (Smaller c d) (c ≡ d) (Smaller d c)) (sym e) (same _ (by_words (numbers c) (numbers d)))
@@ -49,8 +29,3 @@ smaller_cage c d r e = subst (λ o. MatchOrdering o (Smaller c d) (c ≡ d) (Sma
     same Less h = h
     same Equal h = same_numbers c d h
     same Greater h = h
-
-pub is_smaller : (c d : Cage) (r : Bool) → r ≡ is_lt (on numbers (slice_cmp nat_cmp) c d) → (IsTrue r → Smaller c d) × (Smaller c d → IsTrue r)
-is_smaller c d r e =
-    let words = less_by_words (numbers c) (numbers d) in
-    (λ h. words.0 (sym e ∙ h), λ b. e ∙ words.1 b)

@@ -57,6 +57,7 @@ impl Section {
 
 impl Materials {
     // These grades of concrete and steel and this aggregate, where there are such.
+    #[tactic(auto, using(crate::proofs::Grades::concrete_range, crate::proofs::Grades::steel_range))]
     pub fn new(concrete: u16, steel: u16, aggregate: u16) -> Option<Materials>
         ensures materials_exactly_where_there_are { MatchOption result ((m : Materials) → m.concrete ≡ concrete → m.steel ≡ steel → m.aggregate ≢ aggregate) (λ m. (m.concrete ≡ concrete) × (m.steel ≡ steel) × (m.aggregate ≡ aggregate)) }
         ensures exactly_in_range { IsSome result ↔ ((is_concrete concrete ≡ true) × (is_steel steel ≡ true) × Within aggregates aggregate) }
@@ -75,6 +76,7 @@ impl Materials {
 
 impl Member {
     // A member of this span and shear factor, in the frame or not, where there is such.
+    #[tactic(auto, using(crate::proofs::Grades::shear_factor_range))]
     pub fn new(in_frame: bool, span: u16, shear_factor: u16) -> Option<Member>
         ensures member_exactly_where_there_is { MatchOption result ((m : Member) → m.span ≡ span → m.shear_factor ≢ shear_factor) (λ m. (m.in_frame ≡ in_frame) × (m.span ≡ span) × (m.shear_factor ≡ shear_factor)) }
         ensures exactly_in_range { IsSome result ↔ (Within spans span × (is_shear_factor shear_factor ≡ true)) }

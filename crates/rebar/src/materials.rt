@@ -82,6 +82,7 @@ pub fn is_steel(grade: u16) -> bool
 
 impl Materials {
     // The place of the concrete grade in the table.
+    #[tactic(auto, unfolding(crate::specs::Grades::is_concrete, crate::specs::Grades::grade_place))]
     fn grade(&self) -> usize
         ensures is { result ≡ grade_place self.now.concrete }
         ensures within { result < 6 }

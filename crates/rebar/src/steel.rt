@@ -30,6 +30,7 @@ impl Beam {
     }
 
     // How many ties stand in the span.
+    #[tactic(auto, using(std::proofs::lemmas::Nat::div_below), unfolding(crate::specs::Steel::tie_count))]
     fn number_of_ties(&self, ties: &Ties) -> u32
         ensures is { result ≡ tie_count self.now ties.now }
         ensures bounded { result ≤ 239 }
