@@ -21,10 +21,14 @@ fits k r = leb (r * r) (1000000 * get_or concrete_grades k 0) && ltb (1000000 * 
 both : (a b c d : ℕ) → T (leb a b && ltb c d) → (a ≤ b) × (c < d)
 both a b c d h = (grind (arith, nat_tests), grind (arith, nat_tests))
 
-pub root_fits : (f r : ℕ) → is_concrete f ≡ true → grade_place f < 6 → r ≡ root_of f → IsRoot f r
+placed : (f : ℕ) → is_concrete f ≡ true → grade_place f < 6
+unfolding is_concrete grade_place
+placed f made = grind (arith, nat_tests)
+
+pub root_fits : (f r : ℕ) → is_concrete f ≡ true → r ≡ root_of f → IsRoot f r
 unfolding is_concrete grade_place root_of
-root_fits f r made within is =
+root_fits f r made is =
     let k = place_in concrete_grades f in
-    let here = both _ _ _ _ (at fits roots tt k within) in
+    let here = both _ _ _ _ (at fits roots tt k (placed f made)) in
     let h = subst (λ (x : ℕ). IsRoot x (get_or roots k 0)) (at_its_place concrete_grades f made) here in
     subst (λ (x : ℕ). IsRoot f x) (sym is) h

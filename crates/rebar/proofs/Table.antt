@@ -1,6 +1,6 @@
 -- A rule of a table, proved at all of its entries by one test that antt computes, one entry after the other.
 -- Assumes nothing.
-use Rattle.std.proofs.Common.{◌≡◌, refl, map, ℕ, zero, suc, ◌+◌, ◌<◌, ◌≤◌, Bool, true, false, T, leb, leb→le, List, [], ◌∷◌, length, get_or, sym, ◌∙◌, subst, le_of_suc-le-suc, not-suc-le-zero, add-zero, add-suc, suc-add, zero-add}
+use Rattle.std.proofs.Common.{ℕ, zero, suc, ◌+◌, ◌<◌, ◌≤◌, Bool, true, false, T, leb, leb→le, List, [], ◌∷◌, length, get_or, sym, ◌∙◌, subst, le_of_suc-le-suc, not-suc-le-zero, add-zero, add-suc, suc-add, zero-add}
 
 abbrev pub both : Bool → Bool → Bool
 both true b = b
@@ -32,9 +32,3 @@ at f xs t k h = subst (λ (m : ℕ). T (f m (get_or xs k 0))) (zero-add k) (from
 -- a bound of every entry
 pub below : (most : ℕ) (xs : List ℕ) → T (every (λ k x. leb x most) 0 xs) → (k : ℕ) → k < length xs → get_or xs k 0 ≤ most
 below most xs t k h = leb→le _ _ (at (λ k x. leb x most) xs t k h)
-
--- a number of the entry at a place is the entry at that place of the list of that number
-pub field_at : {A : Type 0} (f : A → ℕ) (xs : List A) (k : ℕ) (d : A) → f d ≡ 0 → f (get_or xs k d) ≡ get_or (map f xs) k 0
-field_at f [] k d e = e
-field_at f (x ∷ xs) zero d e = refl
-field_at f (x ∷ xs) (suc k) d e = field_at f xs k d e

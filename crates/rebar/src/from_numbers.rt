@@ -62,7 +62,7 @@ impl Materials {
         ensures materials_exactly_where_there_are { MatchOption result ((m : Materials) → m.concrete ≡ concrete → m.steel ≡ steel → m.aggregate ≢ aggregate) (λ m. (m.concrete ≡ concrete) × (m.steel ≡ steel) × (m.aggregate ≡ aggregate)) }
         ensures exactly_in_range { IsSome result ↔ ((is_concrete concrete ≡ true) × (is_steel steel ≡ true) × Within aggregates aggregate) }
     {
-        if is_concrete(concrete) && is_steel(steel) && matches!(aggregate, 10..=40) {
+        if is_concrete(concrete) && is_steel(steel) && (10..=40).contains(&aggregate) {
             Some(Materials {
                 concrete,
                 steel,
@@ -81,7 +81,7 @@ impl Member {
         ensures member_exactly_where_there_is { MatchOption result ((m : Member) → m.span ≡ span → m.shear_factor ≢ shear_factor) (λ m. (m.in_frame ≡ in_frame) × (m.span ≡ span) × (m.shear_factor ≡ shear_factor)) }
         ensures exactly_in_range { IsSome result ↔ (Within spans span × (is_shear_factor shear_factor ≡ true)) }
     {
-        if matches!(span, 1000..=12000) && is_shear_factor(shear_factor) {
+        if (1000..=12000).contains(&span) && is_shear_factor(shear_factor) {
             Some(Member {
                 in_frame,
                 span,

@@ -1,5 +1,5 @@
-ghost use Rattle.std.specs.Prelude.{◌≡◌, ◌<◌, ◌≤◌, true};
-ghost use Rattle.rebar.specs.Grades.{is_concrete, is_steel, grade_place, root_of, IsRoot, block_factor_of, least_ratio_of};
+ghost use Rattle.std.specs.Prelude.{◌≡◌, ◌≤◌, true, slice_index};
+ghost use Rattle.rebar.specs.Grades.{is_concrete, is_steel, grade_place, root_of, IsRoot, block_factor_of, least_ratios_2800, least_ratios_4200, least_ratio_of};
 
 // What the standards give for a grade of concrete: the root of the grade, the factor of the stress block, and the
 // least ratio of tension steel with each grade of steel.
@@ -81,20 +81,24 @@ pub fn is_steel(grade: u16) -> bool
 }
 
 impl Materials {
-    // The place of the concrete grade in the table.
-    #[tactic(auto, unfolding(crate::specs::Grades::is_concrete, crate::specs::Grades::grade_place))]
-    fn grade(&self) -> usize
-        ensures is { result ≡ grade_place self.now.concrete }
-        ensures within { result < 6 }
+    // What the standards give for the grade of concrete.
+    #[tactic(auto, unfolding(crate::specs::Grades::is_concrete, crate::specs::Grades::grade_place, crate::specs::Grades::root_of, crate::specs::Grades::block_factor_of))]
+    fn grade(&self) -> Grade
+        ensures root { result.root ≡ root_of self.now.concrete }
+        ensures block_factor { result.block_factor ≡ block_factor_of self.now.concrete }
+        ensures least_ratio_2800 { result.least_ratio_2800 ≡ slice_index least_ratios_2800 (grade_place self.now.concrete) }
+        ensures least_ratio_4200 { result.least_ratio_4200 ≡ slice_index least_ratios_4200 (grade_place self.now.concrete) }
+        ensures bounded { (result.root ≤ 20493) × (result.block_factor ≤ 85) × (result.least_ratio_2800 ≤ 44) × (result.least_ratio_4200 ≤ 44) }
     {
-        match self.concrete {
+        let place = match self.concrete {
             180 => 0,
             210 => 1,
             240 => 2,
             280 => 3,
             350 => 4,
             _ => 5,
-        }
+        };
+        GRADES[place]
     }
 
     // The whole part of 1,000 times the square root of the concrete grade.
@@ -103,7 +107,7 @@ impl Materials {
         ensures square_just_below { IsRoot self.now.concrete result }
         ensures bounded { result ≤ 20493 }
     {
-        GRADES[self.grade()].root
+        self.grade().root
     }
 
     // β, the depth of the stress block over that of the neutral axis, in hundredths.
@@ -111,15 +115,16 @@ impl Materials {
         ensures factor_of_the_grade { result ≡ block_factor_of self.now.concrete }
         ensures bounded { result ≤ 85 }
     {
-        GRADES[self.grade()].block_factor
+        self.grade().block_factor
     }
 
     // ρ, the least ratio of tension steel, in ten-thousandths.
+    #[tactic(auto, unfolding(crate::specs::Grades::least_ratio_of))]
     pub fn least_ratio(&self) -> u32
         ensures ratio_of_the_grades { result ≡ least_ratio_of self.now.concrete self.now.steel }
         ensures bounded { result ≤ 44 }
     {
-        let grade = &GRADES[self.grade()];
+        let grade = self.grade();
         if self.steel == 2800 {
             grade.least_ratio_2800
         } else {

@@ -12,7 +12,7 @@ impl Ties {
         ensures bounded { result ≤ 96 }
     {
         let hook: u32 = 75;
-        hook.max((6 * self.diameter() + 9) / 10)
+        hook.max((6 * self.diameter()).div_ceil(10))
     }
 }
 
@@ -30,13 +30,13 @@ impl Beam {
     }
 
     // How many ties stand in the span.
-    #[tactic(auto, using(std::proofs::lemmas::Nat::div_below), unfolding(crate::specs::Steel::tie_count))]
+    #[tactic(auto, using(std::proofs::lemmas::Nat::div_below, crate::proofs::Rounding::rounded_up), unfolding(crate::specs::Steel::tie_count))]
     fn number_of_ties(&self, ties: &Ties) -> u32
         ensures is { result ≡ tie_count self.now ties.now }
         ensures bounded { result ≤ 239 }
     {
         let spacing = ties.spacing as u32;
-        (self.member.span as u32 - 100 + (spacing - 1)) / spacing + 1
+        (self.member.span as u32 - 100).div_ceil(spacing) + 1
     }
 
     // The steel of the bars of one face, in mm³.

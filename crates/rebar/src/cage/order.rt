@@ -1,7 +1,8 @@
-ghost use Rattle.std.specs.Prelude.{◌≡◌, ◌↔◌, IsTrue, nat_eq};
-ghost use Rattle.std.specs.Ordering.{MatchOrdering, nat_cmp, on};
+ghost use Rattle.std.specs.Prelude.{◌≡◌, ◌↔◌, IsTrue, IsSomeAnd, nat_eq};
+ghost use Rattle.std.specs.Ordering.{MatchOrdering, nat_cmp, on, as_partial_cmp};
 ghost use Rattle.std.specs.Cmp.Lexicographic.{pointwise, slice_cmp};
 ghost use Rattle.rebar.specs.declared.cage.Cage.{Cage};
+ghost use Rattle.rebar.specs.Compared.{derived_eq, derived_partial_cmp, derived_cmp};
 ghost use Rattle.rebar.specs.Order.{numbers, Smaller};
 
 use crate::cage::Cage;
@@ -26,9 +27,19 @@ impl Cage {
     // Whether it is the same cage as another: by `==`, which compares the six numbers.
     pub fn is_same(&self, other: &Cage) -> bool
         ensures value { result ≡ on numbers (pointwise nat_eq) self.now other.now }
+        ensures of_every_two { (c d : Cage) → derived_eq c d ≡ on numbers (pointwise nat_eq) c d }
         ensures the_same_cage { IsTrue result ↔ (self.now ≡ other.now) }
     {
         self == other
+    }
+
+    // The same as `order`, by `partial_cmp`.
+    pub fn partial_order(&self, other: &Cage) -> Option<Ordering>
+        ensures value { result ≡ as_partial_cmp (on numbers (slice_cmp nat_cmp)) self.now other.now }
+        ensures of_every_two { (c d : Cage) → derived_partial_cmp c d ≡ as_partial_cmp (on numbers (slice_cmp nat_cmp)) c d }
+        ensures smaller_cage { IsSomeAnd result (λ o. MatchOrdering o (Smaller self.now other.now) (self.now ≡ other.now) (Smaller other.now self.now)) }
+    {
+        self.partial_cmp(other)
     }
 
     // Whether it is smaller than another, by `<`.
@@ -41,6 +52,7 @@ impl Cage {
     // Of two cages the smaller is the one whose first differing number is smaller, by `cmp`.
     pub fn order(&self, other: &Cage) -> Ordering
         ensures value { result ≡ on numbers (slice_cmp nat_cmp) self.now other.now }
+        ensures of_every_two { (c d : Cage) → derived_cmp c d ≡ on numbers (slice_cmp nat_cmp) c d }
         ensures smaller_cage { MatchOrdering result (Smaller self.now other.now) (self.now ≡ other.now) (Smaller other.now self.now) }
     {
         self.cmp(other)

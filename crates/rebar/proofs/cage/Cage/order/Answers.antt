@@ -1,6 +1,6 @@
 use Rattle.std.proofs.Common.{rules}
-use Rattle.rebar.proofs.Words.{smaller_cage}
+use Rattle.rebar.proofs.Dictionary.{smaller_cage}
 use Rattle.rebar.proofs.cage.Cage.order.Goals as goal
 
-pub returns : goal.returns
-returns c = record { value = search rules; smaller_cage = smaller_cage c.args.self.now c.args.other.now _ (search rules) }
+pub returns-clause-smaller_cage : goal.returns-clause-smaller_cage
+returns-clause-smaller_cage c = smaller_cage c.args.self.now c.args.other.now _ (search rules)

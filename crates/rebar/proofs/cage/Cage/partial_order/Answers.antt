@@ -1,0 +1,6 @@
+use Rattle.std.proofs.Common.{rules}
+use Rattle.rebar.proofs.Dictionary.{smaller_partly}
+use Rattle.rebar.proofs.cage.Cage.partial_order.Goals as goal
+
+pub returns-clause-smaller_cage : goal.returns-clause-smaller_cage
+returns-clause-smaller_cage c = smaller_partly c.args.self.now c.args.other.now _ (search rules)
