@@ -1,6 +1,5 @@
 -- The numbers that both faces of a cage make together.
 use Rattle.std.specs.Prelude.{ℕ, min}
-use Rattle.rebar.specs.declared.beam.Beam.{Beam}
 use Rattle.books.specs.declared.face.Face.{Face}
 use Rattle.books.specs.declared.face.Faces.{Faces}
 use Rattle.books.specs.Frame.{probable_moment, moment_shear}
@@ -9,8 +8,8 @@ use Rattle.books.specs.Frame.{probable_moment, moment_shear}
 abbrev pub least_depth : Faces → ℕ
 least_depth faces = min faces.bottom.depth faces.top.depth
 
--- j, the shear that the probable moments of two faces make over the span of a beam
-abbrev pub shear_of_moments : Beam → Faces → ℕ
-shear_of_moments b faces =
-    let moment : Face → ℕ = λ face. probable_moment b.section b.materials face.force face.depth in
-    moment_shear b.member.span (moment faces.bottom) (moment faces.top)
+-- j, the shear that the probable moments of two faces make over the span
+abbrev pub shear_of_moments : Faces → ℕ
+shear_of_moments faces =
+    let moment : Face → ℕ = λ face. probable_moment face.beam.now.section face.beam.now.materials face.force face.depth in
+    moment_shear faces.beam.now.member.span (moment faces.bottom) (moment faces.top)

@@ -105,10 +105,11 @@ impl<'a> Layout<'a> {
     }
 }
 
-// The bars of a face as the formulas take them: whether their outer row fits, how deep they stand into the section
+// The bars of a face of a beam as the formulas take them: whether their outer row fits, how deep they stand into the section
 // in tenths, their steel area in mm², their force q at yield, and their effective depth d in tenths.
 #[derive(Clone, Copy)]
-pub(crate) struct Face {
+pub(crate) struct Face<'a> {
+    pub beam: &'a Beam,
     pub fits: bool,
     pub thickness: u64,
     pub area: u64,
@@ -117,9 +118,10 @@ pub(crate) struct Face {
     ghost bounded: { (thickness ≤ 1875) × (area ≤ 12072) × (force ≤ 507024) × (depth ≤ 8800) },
 }
 
-impl Face {
+impl<'a> Face<'a> {
     // The face that these bars make.
-    pub(crate) fn of(beam: &Beam, ties: &Ties, bars: &Bars) -> Face
+    pub(crate) fn of(beam: &'a Beam, ties: &Ties, bars: &Bars) -> Face<'a>
+        ensures of_the_beam { result.beam.now ≡ beam.now }
         ensures fits { result.fits ≡ test (outer_row_fits beam.now.section beam.now.materials ties.now bars.now) }
         ensures thickness { result.thickness ≡ face_depth beam.now.section beam.now.materials ties.now bars.now }
         ensures area { result.area ≡ face_area bars.now }
@@ -128,6 +130,7 @@ impl Face {
     {
         let layout = Layout::of(beam, ties, bars);
         Face {
+            beam,
             fits: layout.fits,
             thickness: layout.thickness(),
             area: bars.area() as u64,
@@ -137,21 +140,23 @@ impl Face {
     }
 
     // Whether this face and the one across stand apart.
-    pub(crate) fn stands_apart(&self, across: &Face, beam: &Beam) -> bool
-        ensures { result ≡ test (faces_apart beam.now.section self.now.thickness across.now.thickness) }
+    pub(crate) fn stands_apart(&self, across: &Face) -> bool
+        ensures { result ≡ test (faces_apart self.now.beam.now.section self.now.thickness across.now.thickness) }
     {
-        self.thickness + across.thickness + 250 <= 10 * beam.section.height as u64
+        self.thickness + across.thickness + 250 <= 10 * self.beam.section.height as u64
     }
 }
 
-// The two faces of a cage.
+// The two faces of a cage in a beam, and the ties round them.
 #[derive(Clone, Copy)]
-pub(crate) struct Faces {
-    pub bottom: Face,
-    pub top: Face,
+pub(crate) struct Faces<'a> {
+    pub beam: &'a Beam,
+    pub ties: &'a Ties,
+    pub bottom: Face<'a>,
+    pub top: Face<'a>,
 }
 
-impl Faces {
+impl Faces<'_> {
     ghost use Rattle.books.specs.Faces.{least_depth};
 
     // z, the smaller of the two effective depths.

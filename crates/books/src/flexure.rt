@@ -13,45 +13,45 @@ pub(crate) fn strip_of(beam: &Beam) -> u64
     beam.materials.concrete as u64 * beam.section.width as u64
 }
 
-impl Face {
+impl Face<'_> {
     // The stress block, were it as deep as the steel: f × b × d.
-    pub(crate) fn full_block(&self, beam: &Beam) -> u64
-        ensures is { result ≡ beam.now.materials.concrete * beam.now.section.width * self.now.depth }
+    pub(crate) fn full_block(&self) -> u64
+        ensures is { result ≡ self.now.beam.now.materials.concrete * self.now.beam.now.section.width * self.now.depth }
         ensures small { result ≤ 2956800000 }
     {
-        strip_of(beam) * self.depth
+        strip_of(self.beam) * self.depth
     }
 
     // Whether the steel yields well before the concrete crushes: net strain 0.005 at d.
-    pub(crate) fn is_ductile(&self, beam: &Beam) -> bool
-        ensures { result ≡ test (ductile beam.now.section beam.now.materials self.now.force self.now.depth) }
+    pub(crate) fn is_ductile(&self) -> bool
+        ensures { result ≡ test (ductile self.now.beam.now.section self.now.beam.now.materials self.now.force self.now.depth) }
     {
-        let block = beam.materials.block_factor() as u64;
-        16_000_000 * self.force <= 51 * block * self.full_block(beam)
+        let block = self.beam.materials.block_factor() as u64;
+        16_000_000 * self.force <= 51 * block * self.full_block()
     }
 
     // Whether the face bears a moment in bending.
-    pub(crate) fn bears_moment(&self, beam: &Beam, moment: u32) -> bool
+    pub(crate) fn bears_moment(&self, moment: u32) -> bool
         requires { moment ≤ 3800000 }
-        ensures { result ≡ test (bends beam.now.section beam.now.materials moment self.now.force self.now.depth) }
+        ensures { result ≡ test (bends self.now.beam.now.section self.now.beam.now.materials moment self.now.force self.now.depth) }
     {
         let m = moment as u64;
         let q = self.force;
-        170_000 * m * strip_of(beam) + 90_000 * q * q <= 153 * q * self.full_block(beam)
+        170_000 * m * strip_of(self.beam) + 90_000 * q * q <= 153 * q * self.full_block()
     }
 
     // Whether the face has the least steel.
-    pub(crate) fn has_least_steel(&self, beam: &Beam) -> bool
-        ensures { result ≡ test (least_steel beam.now.section beam.now.materials self.now.area self.now.depth) }
+    pub(crate) fn has_least_steel(&self) -> bool
+        ensures { result ≡ test (least_steel self.now.beam.now.section self.now.beam.now.materials self.now.area self.now.depth) }
     {
-        let b = beam.section.width as u64;
-        beam.materials.least_ratio() as u64 * b * self.depth <= 100_000 * self.area
+        let b = self.beam.section.width as u64;
+        self.beam.materials.least_ratio() as u64 * b * self.depth <= 100_000 * self.area
     }
 
     // Whether the face has the least steel, where a moment pulls at it.
-    pub(crate) fn has_least_steel_under(&self, beam: &Beam, moment: u32) -> bool
-        ensures { result ≡ test (least_steel_under beam.now.section beam.now.materials moment self.now.area self.now.depth) }
+    pub(crate) fn has_least_steel_under(&self, moment: u32) -> bool
+        ensures { result ≡ test (least_steel_under self.now.beam.now.section self.now.beam.now.materials moment self.now.area self.now.depth) }
     {
-        moment == 0 || self.has_least_steel(beam)
+        moment == 0 || self.has_least_steel()
     }
 }

@@ -18,21 +18,21 @@ pub struct Frame<B> {
     pub below: B,
 }
 
-impl Face {
+impl Face<'_> {
     // The probable moment of the face, in kg·mm.
-    fn probable_moment(&self, beam: &Beam) -> u64
-        ensures is { result ≡ probable_moment beam.now.section beam.now.materials self.now.force self.now.depth }
+    fn probable_moment(&self) -> u64
+        ensures is { result ≡ probable_moment self.now.beam.now.section self.now.beam.now.materials self.now.force self.now.depth }
         ensures small { result ≤ 5000000000 }
     {
-        let bracket = (17 * self.full_block(beam)).saturating_sub(12_500 * self.force);
-        (5 * self.force * bracket).div_ceil(680 * strip_of(beam))
+        let bracket = (17 * self.full_block()).saturating_sub(12_500 * self.force);
+        (5 * self.force * bracket).div_ceil(680 * strip_of(self.beam))
     }
 
     // Whether the face has less than the most steel.
-    fn is_below_most_steel(&self, beam: &Beam) -> bool
-        ensures { result ≡ test (most_steel beam.now.section self.now.area self.now.depth) }
+    fn is_below_most_steel(&self) -> bool
+        ensures { result ≡ test (most_steel self.now.beam.now.section self.now.area self.now.depth) }
     {
-        400 * self.area < beam.section.width as u64 * self.depth
+        400 * self.area < self.beam.section.width as u64 * self.depth
     }
 
     // Whether this bottom face has half the steel of the top.
@@ -43,14 +43,14 @@ impl Face {
     }
 }
 
-impl Faces {
+impl Faces<'_> {
     // The shear of the two probable moments over the span.
-    fn moment_shear(&self, beam: &Beam) -> u64
-        ensures is { result ≡ shear_of_moments beam.now self.now }
+    fn moment_shear(&self) -> u64
+        ensures is { result ≡ shear_of_moments self.now }
         ensures small { result ≤ 200000000 }
     {
-        let both = self.bottom.probable_moment(beam) + self.top.probable_moment(beam);
-        (10 * both).div_ceil(beam.member.span as u64)
+        let both = self.bottom.probable_moment() + self.top.probable_moment();
+        (10 * both).div_ceil(self.beam.member.span as u64)
     }
 }
 
@@ -62,7 +62,7 @@ fn is_close_in_frame(ties: &Ties, depth: u64) -> bool
 }
 
 impl Strengths {
-    // The strengths without the concrete, where the moments make more of the shear than gravity does.
+    // The strengths without the concrete, where the moments make more than half of the shear: more than gravity does.
     fn relied_on(&self, gravity: u64, moments: u64) -> Strengths
         ensures concrete { result.concrete ≡ relied_on gravity moments self.now.concrete }
         ensures ties { result.ties ≡ self.now.ties }
@@ -76,15 +76,15 @@ impl Strengths {
 }
 
 // Asks the articles 27 and 28.
-fn ask_in_shear(beam: &Beam, ties: &Ties, faces: &Faces) -> Result<(), Broken>
-    ensures { answer_of result ≡ first_broken (in_frame_shear beam.now.section beam.now.materials beam.now.member.shear_factor beam.now.actions.gravity (shear_of_moments beam.now faces.now) ties.now (least_depth faces.now)) }
+fn ask_in_shear(faces: &Faces) -> Result<(), Broken>
+    ensures { answer_of result ≡ first_broken (in_frame_shear faces.now.beam.now.section faces.now.beam.now.materials faces.now.beam.now.member.shear_factor faces.now.beam.now.actions.gravity (shear_of_moments faces.now) faces.now.ties.now (least_depth faces.now)) }
 {
-    let strengths = Strengths::of(beam, ties, faces);
-    let gravity = beam.actions.gravity as u64;
-    let moments = faces.moment_shear(beam);
+    let strengths = Strengths::of(faces);
+    let gravity = faces.beam.actions.gravity as u64;
+    let moments = faces.moment_shear();
     let shear = Shear {
         force: gravity + moments,
-        factor: beam.member.shear_factor as u64,
+        factor: faces.beam.member.shear_factor as u64,
     };
     ask(27, strengths.section_bears(&shear))?;
     ask(28, strengths.relied_on(gravity, moments).bear(&shear))
@@ -94,16 +94,22 @@ fn ask_in_shear(beam: &Beam, ties: &Ties, faces: &Faces) -> Result<(), Broken>
 fn ask_all(beam: &Beam, cage: &Cage) -> Result<(), Broken>
     ensures { answer_of result ≡ first_broken (frame beam.now.section beam.now.materials beam.now.member beam.now.actions cage.now) }
 {
-    let bottom = Face::of(beam, &cage.ties, &cage.bottom);
-    let top = Face::of(beam, &cage.ties, &cage.top);
-    ask(21, bottom.has_least_steel(beam))?;
-    ask(22, top.has_least_steel(beam))?;
-    ask(23, bottom.is_below_most_steel(beam))?;
-    ask(24, top.is_below_most_steel(beam))?;
+    let ties = &cage.ties;
+    let bottom = Face::of(beam, ties, &cage.bottom);
+    let top = Face::of(beam, ties, &cage.top);
+    ask(21, bottom.has_least_steel())?;
+    ask(22, top.has_least_steel())?;
+    ask(23, bottom.is_below_most_steel())?;
+    ask(24, top.is_below_most_steel())?;
     ask(25, bottom.has_half_of(&top))?;
-    let faces = Faces { bottom, top };
-    ask(26, is_close_in_frame(&cage.ties, faces.depth()))?;
-    ask_in_shear(beam, &cage.ties, &faces)
+    let faces = Faces {
+        beam,
+        ties,
+        bottom,
+        top,
+    };
+    ask(26, is_close_in_frame(ties, faces.depth()))?;
+    ask_in_shear(&faces)
 }
 
 impl<B: Book> Book for Frame<B> {

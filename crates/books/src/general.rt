@@ -17,10 +17,11 @@ use rebar::cage::{Cage, Ties};
 pub struct General;
 
 // Asks the articles 10 to 13.
-fn ask_in_shear(beam: &Beam, ties: &Ties, faces: &Faces) -> Result<(), Broken>
-    ensures { answer_of result ≡ first_broken (in_shear beam.now.section beam.now.materials beam.now.member.shear_factor beam.now.actions.shear ties.now (least_depth faces.now)) }
+fn ask_in_shear(faces: &Faces) -> Result<(), Broken>
+    ensures { answer_of result ≡ first_broken (in_shear faces.now.beam.now.section faces.now.beam.now.materials faces.now.beam.now.member.shear_factor faces.now.beam.now.actions.shear faces.now.ties.now (least_depth faces.now)) }
 {
-    let strengths = Strengths::of(beam, ties, faces);
+    let Faces { beam, ties, .. } = faces;
+    let strengths = Strengths::of(faces);
     let shear = Shear {
         force: beam.actions.shear as u64,
         factor: beam.member.shear_factor as u64,
@@ -35,19 +36,25 @@ fn ask_in_shear(beam: &Beam, ties: &Ties, faces: &Faces) -> Result<(), Broken>
 fn ask_all(beam: &Beam, cage: &Cage) -> Result<(), Broken>
     ensures { answer_of result ≡ first_broken (general beam.now.section beam.now.materials beam.now.member beam.now.actions cage.now) }
 {
-    let actions = &beam.actions;
-    let bottom = Face::of(beam, &cage.ties, &cage.bottom);
+    let ties = &cage.ties;
+    let bottom = Face::of(beam, ties, &cage.bottom);
     ask(1, bottom.fits)?;
-    let top = Face::of(beam, &cage.ties, &cage.top);
+    let top = Face::of(beam, ties, &cage.top);
     ask(2, top.fits)?;
-    ask(3, bottom.stands_apart(&top, beam))?;
-    ask(4, bottom.is_ductile(beam))?;
-    ask(5, top.is_ductile(beam))?;
-    ask(6, bottom.bears_moment(beam, actions.bottom))?;
-    ask(7, top.bears_moment(beam, actions.top))?;
-    ask(8, bottom.has_least_steel_under(beam, actions.bottom))?;
-    ask(9, top.has_least_steel_under(beam, actions.top))?;
-    ask_in_shear(beam, &cage.ties, &Faces { bottom, top })
+    ask(3, bottom.stands_apart(&top))?;
+    ask(4, bottom.is_ductile())?;
+    ask(5, top.is_ductile())?;
+    ask(6, bottom.bears_moment(beam.actions.bottom))?;
+    ask(7, top.bears_moment(beam.actions.top))?;
+    ask(8, bottom.has_least_steel_under(beam.actions.bottom))?;
+    ask(9, top.has_least_steel_under(beam.actions.top))?;
+    let faces = Faces {
+        beam,
+        ties,
+        bottom,
+        top,
+    };
+    ask_in_shear(&faces)
 }
 
 impl Book for General {

@@ -27,12 +27,13 @@ pub(crate) struct Strengths {
 impl Strengths {
     ghost use Rattle.books.specs.Faces.{least_depth};
 
-    // The strengths of a beam with these faces and ties.
-    pub(crate) fn of(beam: &Beam, ties: &Ties, faces: &Faces) -> Strengths
-        ensures concrete { result.concrete ≡ vc_of beam.now.section beam.now.materials (least_depth faces.now) }
-        ensures ties { result.ties ≡ vs_of beam.now.materials ties.now (least_depth faces.now) }
-        ensures most { result.most ≡ vm_of beam.now.section beam.now.materials (least_depth faces.now) }
+    // The strengths of the section with these faces and ties.
+    pub(crate) fn of(faces: &Faces) -> Strengths
+        ensures concrete { result.concrete ≡ vc_of faces.now.beam.now.section faces.now.beam.now.materials (least_depth faces.now) }
+        ensures ties { result.ties ≡ vs_of faces.now.beam.now.materials faces.now.ties.now (least_depth faces.now) }
+        ensures most { result.most ≡ vm_of faces.now.beam.now.section faces.now.beam.now.materials (least_depth faces.now) }
     {
+        let Faces { beam, ties, .. } = faces;
         let r = beam.materials.root() as u64;
         let b = beam.section.width as u64;
         let y = yield_stress(beam);

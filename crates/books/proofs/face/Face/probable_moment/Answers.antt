@@ -1,5 +1,6 @@
 use Rattle.std.proofs.Common.{◌*◌, arith}
-use Rattle.books.proofs.Products.{spread, rounded_up}
+use Rattle.rebar.proofs.Rounding.{rounded_up}
+use Rattle.books.proofs.Products.{spread}
 use Rattle.books.proofs.face.Face.probable_moment.Goals as goal
 
 pub returns-clause-is : goal.returns-clause-is

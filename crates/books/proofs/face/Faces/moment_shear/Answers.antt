@@ -1,5 +1,5 @@
 use Rattle.std.proofs.Common.{arith}
-use Rattle.books.proofs.Products.{rounded_up}
+use Rattle.rebar.proofs.Rounding.{rounded_up}
 use Rattle.books.proofs.face.Faces.moment_shear.Goals as goal
 
 pub returns-clause-is : goal.returns-clause-is
