@@ -7,7 +7,7 @@ pub(crate) struct Broken {
     pub article: u8,
 }
 
-// Asks an article, which is the broken one where it does not hold.
+// Nothing where an article holds, else the article.
 pub(crate) fn ask(article: u8, holds: bool) -> Result<(), Broken>
     ensures { MatchResult result (λ _. IsTrue holds) (λ broken. (holds ≡ false) × (broken.article ≡ article)) }
 {

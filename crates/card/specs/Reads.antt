@@ -1,5 +1,6 @@
 -- What the readers of a card answer.
-use Rattle.std.specs.Prelude.{◌≡◌, ℕ, true, List, ℤ, pos, negsuc, ◌≤ℤ◌, Option, Result}
+use Rattle.std.specs.Prelude.{◌≡◌, ℕ, true, List, ℤ, Option, Result}
+use Rattle.loads.specs.Effects.{Moderate}
 use Rattle.card.specs.declared.body.Body.{Body}
 use Rattle.card.specs.declared.fault.Fault.{Fault}
 use Rattle.card.specs.declared.layout.Field.{Field}
@@ -22,7 +23,7 @@ NumberAs f least rest at =
 -- the moment or the shear that begins at a place: it is in range, or bad
 abbrev pub LoadAs : List ℕ → ℕ → Result ℤ Fault → Type 0
 LoadAs rest at =
-    Answers (load_fault rest at) (λ z. (z ≡ signed_at rest at) × (negsuc 99999 ≤ℤ z) × (z ≤ℤ pos 100000))
+    Answers (load_fault rest at) (λ z. (z ≡ signed_at rest at) × Moderate z)
 
 -- a part of the beam, or the first bad number in it
 abbrev pub Reads : {T : Type 0} → (ℕ → ℕ → List ℕ → Option Fault) → (ℕ → List ℕ → T → Type 0) → Body → Result T Fault → Type 0

@@ -1,4 +1,4 @@
-ghost use Rattle.std.specs.Prelude.{◌≡◌, ◌+◌, ◌<◌, ◌≤◌, true, false, MatchOption};
+ghost use Rattle.std.specs.Prelude.{◌≡◌, ◌<◌, ◌≤◌, false, MatchOption};
 ghost use Rattle.card.specs.Card.{map_fault, Shaped};
 ghost use Rattle.card.specs.Faults.{Answers};
 ghost use Rattle.card.specs.Map.{stands, unknown, required, offset, Begins};

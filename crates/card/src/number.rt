@@ -6,7 +6,7 @@ ghost use Rattle.card.specs.Reads.{NumberAs};
 use crate::fault::{Fault, FaultKind};
 use crate::layout::Field;
 
-// A number that is in range, or its fault where it begins at a byte of the rest: the map's two bytes stand before it.
+// A number of a card where it is in range, else its fault. It begins at a byte of the rest; two bytes of map stand before that.
 pub(crate) fn in_range<T: Drop>(number: T, fine: bool, at: usize) -> Result<T, Fault>
     requires { 2 + at < 2 ^ 64 }
     ensures { Answers (range_fault fine at) (λ n. (n ≡ number) × IsTrue fine) result }

@@ -32,7 +32,7 @@ impl From<AllocError> for Failure {
     ghost from_gives = { λ _ failure. failure ≡ NoMemory };
 
     fn from(_error: AllocError) -> Failure {
-        Failure::NoMemory
+        Self::NoMemory
     }
 }
 

@@ -22,11 +22,7 @@ pub(crate) fn next_order(stream: &[u8]) -> Option<(Order<'_>, &[u8])>
             Some((order, rest))
         }
         [b'E', place, bytes, rest @ ..] => {
-            let bytes = *bytes as usize;
-            if rest.len() < bytes {
-                return None;
-            }
-            let (card, rest) = rest.split_at(bytes);
+            let (card, rest) = rest.split_at_checked(*bytes as usize)?;
             Some((
                 Order::Enter {
                     place: *place,

@@ -27,13 +27,13 @@ impl fmt::Display for Line {
         let letter = self.letter;
         let number = self.number;
         match self.outcome {
-            Ok(Outcome::Done) => write!(f, "{letter} {number} OK\n"),
-            Ok(Outcome::Cage) => write!(f, "{letter} {number} CAGE\n"),
-            Ok(Outcome::NoCage(article)) => write!(f, "{letter} {number} NONE {article}\n"),
+            Ok(Outcome::Done) => writeln!(f, "{letter} {number} OK"),
+            Ok(Outcome::Cage) => writeln!(f, "{letter} {number} CAGE"),
+            Ok(Outcome::NoCage(article)) => writeln!(f, "{letter} {number} NONE {article}"),
             Err(refusal) => {
                 let why = u8::from(refusal);
                 let place = refusal.byte_place();
-                write!(f, "{letter} {number} REFUSED {why} {place}\n")
+                writeln!(f, "{letter} {number} REFUSED {why} {place}")
             }
         }
     }

@@ -1,4 +1,4 @@
-pub mod Made
+pub mod FromFn
 pub mod PlaceLemmas
 pub mod Steps
 pub mod Loops

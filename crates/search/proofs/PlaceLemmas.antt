@@ -11,10 +11,7 @@ use Rattle.search.specs.declared.places.TheConstants.{BARS, TIES}
 use Rattle.search.specs.declared.weighed_ties.WeighedTies.{WeighedTies}
 use Rattle.search.specs.Search.{TieIn, IsByPlace, bars_place, ties_place}
 
--- every bars and every ties have a place
-pub bars_place_lt : (a : Bars) → bars_place a < BARS
-bars_place_lt a = omega arith
-
+-- every ties have a place
 pub ties_place_lt : (a : Ties) → ties_place a < TIES
 ties_place_lt a = omega arith
 

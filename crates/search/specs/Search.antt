@@ -41,9 +41,9 @@ pub record Step (answer : Beam → Cage → ℕ) (got : Kind → ℕ → Bool) (
   pub keeps : (d : Cage) → Covers answer beam old d → Covers answer beam new d
 
 -- a decision that no cage of this steel or more can change
-abbrev pub Outweighs : ℕ → Decision → Type 0
-Outweighs floor (Chosen x) = x.steel < floor
-Outweighs floor (Impossible n) = ⊥
+abbrev pub StandsAgainst : ℕ → Decision → Type 0
+StandsAgainst floor (Chosen x) = x.steel < floor
+StandsAgainst floor (Impossible n) = ⊥
 
 -- the place of a face's bars, and of ties, in the order of the search
 abbrev pub bars_place : Bars → ℕ

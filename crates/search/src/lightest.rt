@@ -21,7 +21,7 @@ impl<P: Book> Search<'_, P> {
         ensures done { Done (P.answer self.now.pile.now) self.now.beam.now (OfPair (has self.now.stock.now) bottom.now top.now) result }
     {
         let main = self.beam.bars_steel(bottom) + self.beam.bars_steel(top);
-        if best.outweighs(main + self.least) {
+        if best.stands_against(main + self.least) {
             return best;
         }
         let mut found = best;

@@ -2,7 +2,7 @@ ghost use Rattle.std.specs.Prelude.{◌≡◌, ◌↔◌, IsTrue};
 ghost use Rattle.rebar.specs.Steel.{steel};
 ghost use Rattle.stock.specs.Stock.{has};
 ghost use Rattle.search.specs.Lightest.{FromStock};
-ghost use Rattle.search.specs.Search.{Lighter, Covers, Step, Outweighs};
+ghost use Rattle.search.specs.Search.{Lighter, Covers, Step, StandsAgainst};
 
 use crate::decision::{Choice, Decision};
 use crate::searching::Search;
@@ -13,14 +13,14 @@ impl Choice {
     fn is_lighter(&self, other: &Choice) -> bool
         ensures { IsTrue result ↔ Lighter self.now.steel self.now.cage other.now }
     {
-        self.steel < other.steel || self.steel == other.steel && self.cage.is_smaller(&other.cage)
+        (self.steel, self.cage) < (other.steel, other.cage)
     }
 }
 
 impl Decision {
     // Whether no cage of this steel or more can take its place.
-    pub(crate) fn outweighs(&self, floor: u32) -> bool
-        ensures { IsTrue result ↔ Outweighs floor self.now }
+    pub(crate) fn stands_against(&self, floor: u32) -> bool
+        ensures { IsTrue result ↔ StandsAgainst floor self.now }
     {
         match self {
             Decision::Chosen(chosen) => chosen.steel < floor,

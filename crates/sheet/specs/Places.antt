@@ -37,14 +37,16 @@ abbrev pub doubtful : Kind → ℕ → Bool → Decision → Bool
 doubtful kind mark is-in (Chosen x) = is-in || uses kind mark x.cage
 doubtful kind mark is-in (Impossible n) = true
 
--- a beam with a doubtful decision is open again
+-- a doubtful decision is dropped
 abbrev pub kept : Kind → ℕ → Bool → Option Decision → Option Decision
 kept kind mark is-in None = None
 kept kind mark is-in (Some d) = cond (doubtful kind mark is-in d) None (Some d)
 
+-- a beam whose decision is doubtful is open again
 abbrev pub reopened : Kind → ℕ → Bool → Entry → Entry
 reopened kind mark is-in e = record { beam = e.beam; decision = kept kind mark is-in e.decision }
 
+-- what a place holds afterwards
 abbrev pub place_reopened : Kind → ℕ → Bool → Option Entry → Option Entry
 place_reopened kind mark is-in None = None
 place_reopened kind mark is-in (Some e) = Some (reopened kind mark is-in e)

@@ -1,12 +1,9 @@
 ghost use Rattle.std.specs.Prelude.{◌≡◌};
-ghost use Rattle.sheet.specs.Places.{uses, opened, reopened, shown_by};
+ghost use Rattle.sheet.specs.Places.{opened, reopened};
 
 use crate::change::Change;
-use crate::reading::Shown;
 use rebar::beam::Beam;
-use rebar::cage::Cage;
 use search::decision::Decision;
-use stock::kind::Kind;
 
 // A beam on the sheet with its decision. It is open until it is decided, and open again when its decision may no
 // longer be right.
@@ -14,19 +11,6 @@ use stock::kind::Kind;
 pub(crate) struct Entry {
     pub(crate) beam: Beam,
     pub(crate) decision: Option<Decision>,
-}
-
-impl Change {
-    // Whether a cage has a bar of the mark in its kind.
-    fn is_of(&self, cage: &Cage) -> bool
-        ensures { result ≡ uses self.now.item.kind self.now.item.mark cage.now }
-    {
-        let mark = self.item.mark;
-        match self.item.kind {
-            Kind::Main => cage.bottom.mark == mark || cage.top.mark == mark,
-            Kind::Tie => cage.ties.mark == mark,
-        }
-    }
 }
 
 impl Entry {
@@ -45,19 +29,9 @@ impl Entry {
         ensures { result ≡ reopened change.now.item.kind change.now.item.mark change.now.is_in self.now }
     {
         match &self.decision {
-            Some(Decision::Chosen(choice)) if !change.is_in && !change.is_of(&choice.cage) => *self,
+            Some(Decision::Chosen(choice)) if !change.is_in && !change.touches(&choice.cage) =>
+                *self,
             _ => Entry::open(self.beam),
-        }
-    }
-
-    // What a reader sees.
-    pub(crate) fn shown(&self) -> Shown
-        ensures { result ≡ shown_by self.now.decision }
-    {
-        match self.decision {
-            None => Shown::Open,
-            Some(Decision::Chosen(choice)) => Shown::Chosen(choice),
-            Some(Decision::Impossible(article)) => Shown::Impossible(article),
         }
     }
 }

@@ -2,6 +2,8 @@ ghost use Rattle.std.specs.Prelude.{◌<◌};
 
 use search::decision::Choice;
 
+mod showing; // what a place shows by what it holds
+
 // What a place shows.
 #[derive(Clone, Copy)]
 pub enum Shown {

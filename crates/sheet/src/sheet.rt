@@ -80,13 +80,9 @@ impl<P: Book> Sheet<P> {
         ensures what_the_place_shows { Reads place self.now.table result }
     {
         let place = Place::try_from(place)?;
-        let shown = match self.table.at(place) {
-            None => Shown::Empty,
-            Some(entry) => entry.shown(),
-        };
         Ok(Reading {
             place: place.number,
-            shown,
+            shown: Shown::of(self.table.at(place)),
         })
     }
 }

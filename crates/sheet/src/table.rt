@@ -18,7 +18,7 @@ pub(crate) struct Table {
 }
 
 // What a place holds after a mark came in or went out.
-fn reopened_place(held: Option<Entry>, change: &Change) -> Option<Entry>
+fn place_reopened(held: Option<Entry>, change: &Change) -> Option<Entry>
     ensures { result ≡ place_reopened change.now.item.kind change.now.item.mark change.now.is_in held }
 {
     held.map(|entry| entry.reopened(change))
@@ -29,7 +29,7 @@ fn reopen(places: &mut [Option<Entry>; 64], change: &Change)
     ensures { places.new ≡ map (place_reopened change.now.item.kind change.now.item.mark change.now.is_in) places.old }
 {
     for place in places.iter_mut() {
-        *place = reopened_place(*place, change);
+        *place = place_reopened(*place, change);
     }
 }
 

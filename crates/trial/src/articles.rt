@@ -17,7 +17,7 @@ fn cage(bottom: Bars, top: Bars, spacing: u16) -> Result<Cage, Fail> {
 }
 
 // What the frame layer over the general book answers for the reference beam.
-fn told(in_frame: bool, bottom: Bars, top: Bars, spacing: u16) -> Result<u8, Fail> {
+fn answer(in_frame: bool, bottom: Bars, top: Bars, spacing: u16) -> Result<u8, Fail> {
     let pile = Frame { below: General };
     let cage = cage(bottom, top, spacing)?;
     Ok(check_framed(&pile, &beam(in_frame)?, &cage))
@@ -25,26 +25,26 @@ fn told(in_frame: bool, bottom: Bars, top: Bars, spacing: u16) -> Result<u8, Fai
 
 #[test]
 fn bending_and_shear(rt: HostRuntime) -> Result<(), Fail> {
-    assert_eq!(rt; told(false, bars(3, 5)?, bars(4, 5)?, 200)?, 0);
-    assert_eq!(rt; told(false, bars(3, 5)?, bars(3, 5)?, 200)?, 7);
-    assert_eq!(rt; told(false, bars(2, 5)?, bars(4, 5)?, 200)?, 6);
-    assert_eq!(rt; told(false, bars(3, 5)?, bars(4, 5)?, 225)?, 13);
-    assert_eq!(rt; told(false, bars(3, 5)?, bars(4, 5)?, 125)?, 13);
-    assert_eq!(rt; told(false, bars(3, 5)?, bars(4, 5)?, 150)?, 0);
+    assert_eq!(rt; answer(false, bars(3, 5)?, bars(4, 5)?, 200)?, 0);
+    assert_eq!(rt; answer(false, bars(3, 5)?, bars(3, 5)?, 200)?, 7);
+    assert_eq!(rt; answer(false, bars(2, 5)?, bars(4, 5)?, 200)?, 6);
+    assert_eq!(rt; answer(false, bars(3, 5)?, bars(4, 5)?, 225)?, 13);
+    assert_eq!(rt; answer(false, bars(3, 5)?, bars(4, 5)?, 125)?, 13);
+    assert_eq!(rt; answer(false, bars(3, 5)?, bars(4, 5)?, 150)?, 0);
     Ok(())
 }
 
 #[test]
 fn too_much_steel(rt: HostRuntime) -> Result<(), Fail> {
-    assert_eq!(rt; told(false, bars(12, 11)?, bars(4, 5)?, 200)?, 1);
-    assert_eq!(rt; told(false, bars(2, 11)?, bars(2, 11)?, 200)?, 4);
+    assert_eq!(rt; answer(false, bars(12, 11)?, bars(4, 5)?, 200)?, 1);
+    assert_eq!(rt; answer(false, bars(2, 11)?, bars(2, 11)?, 200)?, 4);
     Ok(())
 }
 
 #[test]
 fn in_a_frame(rt: HostRuntime) -> Result<(), Fail> {
-    assert_eq!(rt; told(true, bars(3, 5)?, bars(4, 5)?, 150)?, 26);
-    assert_eq!(rt; told(true, bars(3, 5)?, bars(4, 5)?, 100)?, 0);
+    assert_eq!(rt; answer(true, bars(3, 5)?, bars(4, 5)?, 150)?, 26);
+    assert_eq!(rt; answer(true, bars(3, 5)?, bars(4, 5)?, 100)?, 0);
     Ok(())
 }
 

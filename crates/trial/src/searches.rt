@@ -20,44 +20,42 @@ impl Book for Always {
     }
 }
 
+// The mark of a kind, 0 for main bars and 1 for ties.
+fn known(kind: u8, mark: u8) -> Result<StockMark, Fail> {
+    StockMark::new(kind, mark).ok_or_else(|| Fail::new("there is no such mark"))
+}
+
 // Main mark 5 and tie mark 3.
 fn small_stock(rt: &impl Abort) -> Result<Stock, Fail> {
     let mut stock = Stock::empty();
-    if let Some(main) = StockMark::new(0, 5) {
-        stock.set(&main, true);
-        assert!(rt; stock.holds(&main) && !stock.offers_cages());
-    }
-    if let Some(tie) = StockMark::new(1, 3) {
-        stock.set(&tie, true);
-        assert!(rt; stock.holds(&tie) && stock.offers_cages());
-    }
+    let main = known(0, 5)?;
+    stock.set(&main, true);
+    assert!(rt; stock.holds(&main) && !stock.offers_cages());
+    let tie = known(1, 3)?;
+    stock.set(&tie, true);
+    assert!(rt; stock.holds(&tie) && stock.offers_cages());
     Ok(stock)
 }
 
 #[test]
 fn lightest_and_smallest_cage(rt: HostRuntime) -> Result<(), Fail> {
-    match design(&Always(0), &beam(false)?, &small_stock(&rt)?) {
-        Decision::Chosen(choice) => {
-            let cage = choice.cage;
-            assert_eq!(rt; (cage.bottom.mark, cage.bottom.number), (5, 2));
-            assert_eq!(rt; (cage.top.mark, cage.top.number), (5, 2));
-            assert_eq!(rt; (cage.ties.mark, cage.ties.spacing), (3, 550));
-            assert_eq!(rt; choice.steel, 4_995_300);
-            Ok(())
-        }
-        Decision::Impossible(_) => Err(Fail::new("every cage passes")),
-    }
+    let found = design(&Always(0), &beam(false)?, &small_stock(&rt)?);
+    let Decision::Chosen(choice) = found else {
+        return Err(Fail::new("every cage passes"));
+    };
+    assert_eq!(rt; choice.cage.numbers(), [5, 2, 5, 2, 3, 550]);
+    assert_eq!(rt; choice.steel, 4_995_300);
+    Ok(())
 }
 
 #[test]
 fn greatest_refusal(rt: HostRuntime) -> Result<(), Fail> {
-    match design(&Always(255), &beam(false)?, &small_stock(&rt)?) {
-        Decision::Chosen(_) => Err(Fail::new("no cage passes")),
-        Decision::Impossible(number) => {
-            assert_eq!(rt; number, 255);
-            Ok(())
-        },
-    }
+    let found = design(&Always(255), &beam(false)?, &small_stock(&rt)?);
+    let Decision::Impossible(number) = found else {
+        return Err(Fail::new("no cage passes"));
+    };
+    assert_eq!(rt; number, 255);
+    Ok(())
 }
 
 #[test]

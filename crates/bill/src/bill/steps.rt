@@ -67,7 +67,11 @@ impl Begun {
         match append(page, self.written, line.as_str().as_bytes()) {
             Err(refusal) => Err(self.refused(refusal)),
             Ok(written) => {
-                self.tear();
+                let Begun {
+                    written: _,
+                    lines: _,
+                    steel: _,
+                } = self;
                 Ok(Totalled { written })
             }
         }

@@ -1,7 +1,7 @@
 use Rattle.std.proofs.Common.{◌≡◌, rules}
 use Rattle.rebar.specs.Steel.{ties_steel}
 use Rattle.search.specs.Search.{ties_place}
-use Rattle.search.proofs.Made.{made_same}
+use Rattle.search.proofs.FromFn.{made_same}
 use Rattle.search.proofs.places.all_ties.Goals as goal
 
 pub returns : goal.returns
