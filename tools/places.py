@@ -3,7 +3,7 @@
 
     python3 tools/places.py [FOLDER]        the folder is a checkout; the one above tools/ by default
 
-What it finds is a list to read, not a verdict: it errs on the side of too many.
+What it finds is a list to read, not a verdict: some of it is no place, and it is blind to what no pattern shows.
 """
 import pathlib
 import re
@@ -27,7 +27,7 @@ def grep(title, pattern, skip=None):
 
 
 def functions():
-    """(path, line, name, parameters, requires clauses, body) of every function with a body."""
+    """(path, line, name, parameters with `self`, requires clauses, body) of every function with a body."""
     for path in SOURCES:
         text = path.read_text()
         for m in re.finditer(r"^( *)(?:pub(?:\(crate\))? )?fn (\w+)", text, re.M):
@@ -44,7 +44,10 @@ def functions():
             requires = re.findall(r"requires (?:\w+ )?\{(.*)\}\s*$", head, re.M)
             inside = head[head.index("("):] if "(" in head else ""
             inside = re.split(r"\)\s*(?:->|\n|\{)", inside)[0]
-            params = re.findall(r"(\w+): &?(?:mut )?([\w<>\[\]'; ]+)", inside)
+            params = re.findall(r"(\w+): &?(?:'\w+ )?(?:mut )?([\w<>\[\]'; ]+)", inside)
+            impls = re.findall(r"^impl(?:<[^>]*>)? (?:.* for )?(\w+)", text[:m.start()], re.M)
+            if indent and impls and re.match(r"\(&?(?:mut )?self\b", inside):
+                params.append(("self", impls[-1]))
             yield path, text.count("\n", 0, m.start()) + 1, name, params, requires, body
 
 
@@ -66,8 +69,7 @@ def own_enums():
 
 
 def matched_by_hand():
-    print("  arms that hand an Ok or an Err on by hand:")
-    grep("  Ok(..) => / Err(..) =>", r"^\s*(Ok|Err)\(.*\) => ")
+    grep("arms on Ok(..) and Err(..)", r"^\s*(Ok|Err)\(.*\) => ")
 
 
 def twins():
@@ -126,7 +128,7 @@ print("5 repeated facts, parameters that travel together")
 repeated_facts()
 print("6 buffers with a length, parallel arrays")
 grep("a length beside a buffer", r"^\s*(pub(\(crate\))? )?len: usize")
-grep("arrays of numbers", r"^(pub(\(crate\))? )?const [A-Z0-9_]+: \[\w+; ")
+grep("constant arrays", r"^(pub(\(crate\))? )?const [A-Z0-9_]+: \[\w+; ")
 grep("fields that are arrays", r"^\s+(pub(\(crate\))? )?\w+: \[\w+; ")
 print("7 switches on a step, tables of functions")
 grep("function pointers, dyn", r"\bdyn\b|: fn\(|\[fn\(")
