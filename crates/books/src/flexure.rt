@@ -23,6 +23,7 @@ impl Face<'_> {
     }
 
     // Whether the steel yields well before the concrete crushes: net strain 0.005 at d.
+    #[tactic(auto, using(crate::proofs::Products::spread))]
     pub(crate) fn is_ductile(&self) -> bool
         ensures { result ≡ test (ductile self.now.beam.now.section self.now.beam.now.materials self.now.force self.now.depth) }
     {

@@ -45,6 +45,7 @@ impl Face<'_> {
 
 impl Faces<'_> {
     // The shear of the two probable moments over the span.
+    #[tactic(auto, using(rebar::proofs::Rounding::rounded_up))]
     fn moment_shear(&self) -> u64
         ensures is { result ≡ shear_of_moments self.now }
         ensures small { result ≤ 200000000 }
