@@ -27,7 +27,7 @@ fn push_ties(line: &mut Line, ties: &Ties)
     push_number(line, ties.spacing);
 }
 
-// The line of a chosen cage at a place.
+// The line of a chosen cage at a place. Not by `write!`, whose contract does not say that the text fits.
 pub(crate) fn line_of(place: u8, choice: &Choice) -> Line
     ensures { result.bytes ≡ line_text place choice.now }
 {

@@ -7,6 +7,7 @@ use rebar::cage::Cage;
 
 // An article book: it answers a beam and a cage with 0 where the cage passes, else with the number of the first
 // article that refuses. Its meaning is that answer for every pair, and a further book has to show only this.
+// The answer is a number and no `Result`, since the rules fix it so for every book.
 pub trait Book {
     ghost answer: { Self → Beam → Cage → ℕ };
 

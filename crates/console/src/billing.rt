@@ -4,7 +4,7 @@ use books::book::Book;
 use sheet::reading::Shown;
 use sheet::sheet::Sheet;
 
-// A line for each place that is chosen, in the order of the places.
+// A line for each place that is chosen, in the order of the places; `read` takes the number of a place.
 fn add_lines<P: Book>(begun: Begun, page: &mut [u8], sheet: &Sheet<P>) -> Result<Begun, Refused> {
     let mut bill = begun;
     for place in 0..64 {

@@ -1,6 +1,6 @@
 ghost use Rattle.std.specs.Prelude.{◌<◌, length, IfSome};
 
-// An order of a stream.
+// An order of a stream. Its numbers are the stream's bytes, whatever they are.
 #[derive(Clone, Copy)]
 pub(crate) enum Order<'a> {
     Stock { kind: u8, mark: u8, is_in: bool },

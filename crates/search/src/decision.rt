@@ -11,6 +11,7 @@ pub struct Choice {
 }
 
 // What the search finds for a beam: the lightest cage, or where none passes the greatest number that refused one.
+// No `Result`, since that none passes is an answer to store and to show, and no error to hand on.
 #[derive(Clone, Copy)]
 pub enum Decision {
     Chosen(Choice),

@@ -39,7 +39,8 @@ impl<P: Book> Search<'_, P> {
         found
     }
 
-    // The decision with the cages of one bottom.
+    // The decision with the cages of one bottom. This loop and the two below are not one over a closure, since each
+    // says another thing of the cages that are covered.
     fn weigh_tops(&self, bottom: &Bars, best: Decision) -> Decision
         requires { MainIn (has self.now.stock.now) bottom.now }
         ensures step { Step (P.answer self.now.pile.now) (has self.now.stock.now) self.now.beam.now best result }

@@ -30,7 +30,8 @@ pub(crate) struct Search<'a, P> {
     ghost bounded: { least ≤ MOST },
 }
 
-// The least steel of the ties from stock, and no less than any ties have where none are.
+// The least steel of the ties from stock, or the greatest of any ties where none are. A loop, since a chain of `filter`,
+// `map` and `min` left a goal open.
 fn least_of(ties: &[WeighedTies; TIES], stock: &Stock) -> u32
     ensures none_less { AllWithin (λ t. TieIn (has stock.now) t.ties → result ≤ t.steel) ties.now 0 TIES }
     ensures bounded { result ≤ MOST }

@@ -4,7 +4,7 @@ use search::decision::Choice;
 
 mod showing; // what a place shows by what it holds
 
-// What a place shows.
+// What a place shows: the four cases that a caller tells apart, side by side.
 #[derive(Clone, Copy)]
 pub enum Shown {
     Empty,

@@ -50,7 +50,7 @@ impl<P: Book> Sheet<P> {
         Ok(())
     }
 
-    // Sets a mark of a kind, 0 for main bars and 1 for ties, in or out of stock.
+    // Sets a mark of a kind, 0 for main bars and 1 for ties, in or out of stock. Any byte may come as a kind.
     pub fn stock(&mut self, kind: u8, mark: u8, is_in: bool) -> Result<(), Refusal>
         ensures keeps_the_pile { self.new.pile ≡ self.old.pile }
         ensures mark_set_or_nothing_changed { Stocks kind mark is_in self.old.table result self.new.table }

@@ -6,7 +6,7 @@ use crate::kind::Kind;
 use crate::stock_mark::StockMark;
 use rebar::cage::{Bars, Ties};
 
-// Which marks are in, for the bars of a face and for ties, from mark 3 on.
+// Which marks are in, for the bars of a face and for ties, from mark 3 on, in fixed memory.
 #[derive(Clone, Copy)]
 pub struct Stock {
     pub main: [bool; 9],

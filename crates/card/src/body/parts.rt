@@ -19,6 +19,7 @@ const NO_FORCE: Force = Force {
     shear: 0,
 };
 
+// The readers of section, materials and member are not one: their structs share no field.
 impl Body<'_> {
     // The value of a field, on the card or by its absence.
     #[tactic(auto, using(crate::proofs::Rows::default_allowed), unfolding(crate::specs::Numbers::field_fault, crate::specs::Numbers::value))]

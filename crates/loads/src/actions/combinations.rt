@@ -85,7 +85,7 @@ impl Effect {
     }
 }
 
-// The ten combinations of the moments and of the shears at one station.
+// The ten combinations of the moments and of the shears at one station; the extremes of each are taken by themselves.
 #[derive(Clone, Copy)]
 struct Station {
     moments: [i32; 10],

@@ -4,6 +4,7 @@ ghost use Rattle.rebar.specs.Marks.{bar_diameter, bar_area};
 use crate::cage::Ties;
 use crate::marks::size_of;
 
+// Not one trait with the bars of a face: each method has a bound of its own.
 impl Ties {
     // The diameter of a tie's bar, in tenths of a mm.
     pub fn diameter(&self) -> u32
