@@ -1,6 +1,7 @@
 -- How a card is laid out: its fields in the order of their bits.
-use Rattle.std.specs.Prelude.{◌≡◌, ℕ, Bool, ◌&&◌, List, [], ◌∷◌, ◌++◌, map, nat_le, slice_index, refl}
+use Rattle.std.specs.Prelude.{◌≡◌, ℕ, Bool, List, [], ◌∷◌, ◌++◌, map, slice_index, refl}
 use Rattle.rebar.specs.Grades.{is_concrete, is_steel, is_shear_factor}
+use Rattle.rebar.specs.Ranges.{range, within, widths, heights, covers, aggregates, spans}
 use Rattle.card.specs.declared.layout.Field.{Field}
 use Rattle.card.specs.declared.layout.Field.TheVariants.{Width, Height, Cover, Concrete, Steel, Aggregate, Frame, Span, ShearFactor}
 use Rattle.card.specs.declared.layout.LoadCase.{LoadCase}
@@ -20,20 +21,16 @@ pub record Row : Type 0 where
 abbrev pub row : ℕ → ℕ → ℕ → (ℕ → ℕ → Bool) → Row
 row bit bytes default allowed = record { bit = bit; bytes = bytes; default = default; allowed = allowed }
 
--- whether a number lies in a range, both ends included
-abbrev pub between : ℕ → ℕ → ℕ → Bool
-between low high n = nat_le low n && nat_le n high
-
 -- bit, bytes, default and allowed numbers of each field
 abbrev pub layout : Field → Row
-layout Width = row 0 2 0 (λ least n. between 250 800 n)
-layout Height = row 1 2 0 (λ least n. between 250 900 n)
-layout Cover = row 2 1 40 (λ least n. between least 75 n)
+layout Width = row 0 2 0 (λ least n. within widths n)
+layout Height = row 1 2 0 (λ least n. within heights n)
+layout Cover = row 2 1 40 (λ least n. within (range least covers.most) n)
 layout Concrete = row 3 2 0 (λ least n. is_concrete n)
 layout Steel = row 4 2 4200 (λ least n. is_steel n)
-layout Aggregate = row 5 1 20 (λ least n. between 10 40 n)
-layout Frame = row 6 1 0 (λ least n. between 0 1 n)
-layout Span = row 7 2 0 (λ least n. between 1000 12000 n)
+layout Aggregate = row 5 1 20 (λ least n. within aggregates n)
+layout Frame = row 6 1 0 (λ least n. within (range 0 1) n)
+layout Span = row 7 2 0 (λ least n. within spans n)
 layout ShearFactor = row 8 1 75 (λ least n. is_shear_factor n)
 
 -- the bit of a load case, which takes 24 bytes and means no load where it is absent
@@ -74,4 +71,4 @@ case_size Earthquake = refl
 
 -- the least cover, in mm
 abbrev pub least_cover : ℕ
-least_cover = 20
+least_cover = covers.least

@@ -1,10 +1,10 @@
 -- Cages of the same numbers are the same: the facts in their ghost fields have one proof at most.
-use Rattle.std.proofs.Common.{◌≡◌, ◌%◌, ◌≤◌}
-use mathlib.Core.HLevel.{is_prop→PathP, ×_prop, ×₃_prop}
+use Rattle.std.proofs.Common.{◌≡◌, ◌%◌}
+use mathlib.Core.HLevel.{is_prop→PathP, ×_prop}
 use native.Mathlib.Bridge.{le_prop}
 use native.Mathlib.Nat.{ℕ_set}
 use Rattle.rebar.specs.Order.{numbers}
-use Rattle.rebar.specs.Ranges.{Within, main_marks, tie_marks, bar_numbers}
+use Rattle.rebar.specs.Ranges.{Within, main_marks, tie_marks, bar_numbers, spacings, spacing_step}
 use Rattle.rebar.specs.declared.cage.Bars.{Bars}
 use Rattle.rebar.specs.declared.cage.Ties.{Ties}
 use Rattle.rebar.specs.declared.cage.Cage.{Cage}
@@ -25,7 +25,7 @@ same_ties a b p q =
       spacing = q i;
       marked = is_prop→PathP (λ j. Within tie_marks (p j)) (λ j. ×_prop le_prop le_prop) a.marked b.marked i;
       spaced =
-          is_prop→PathP (λ j. (50 ≤ q j) × (q j ≤ 600) × (q j % 25 ≡ 0)) (λ j. ×₃_prop le_prop le_prop (ℕ_set _ _)) a.spaced
+          is_prop→PathP (λ j. Within spacings (q j) × (q j % spacing_step ≡ 0)) (λ j. ×_prop (×_prop le_prop le_prop) (ℕ_set _ _)) a.spaced
           b.spaced i;
     }
 

@@ -19,12 +19,18 @@ unfoldable pub is_concrete : ℕ → Bool
 is_concrete = one_of concrete_grades
 
 -- the grades of steel, kg/cm²
+abbrev pub steel_grades : List ℕ
+steel_grades = 2800 ∷ 4200 ∷ []
+
 unfoldable pub is_steel : ℕ → Bool
-is_steel = one_of (2800 ∷ 4200 ∷ [])
+is_steel = one_of steel_grades
 
 -- the strength reduction factors for shear, in hundredths
+abbrev pub shear_factors : List ℕ
+shear_factors = 60 ∷ 75 ∷ []
+
 unfoldable pub is_shear_factor : ℕ → Bool
-is_shear_factor = one_of (60 ∷ 75 ∷ [])
+is_shear_factor = one_of shear_factors
 
 -- the place of a grade of concrete in the tables below
 unfoldable pub grade_place : ℕ → ℕ

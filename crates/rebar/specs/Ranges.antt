@@ -1,5 +1,5 @@
 -- The numbers that the sizes of beams and cages may have.
-use Rattle.std.specs.Prelude.{ℕ, ◌≤◌, Bool, ◌&&◌, nat_le}
+use Rattle.std.specs.Prelude.{ℕ, ◌-◌, ◌≤◌, Bool, ◌&&◌, List, length, nat_le, slice_index}
 
 -- the numbers from a least to a greatest one, both included
 pub record Range : Type 0 where
@@ -16,6 +16,10 @@ Within r n = (r.least ≤ n) × (n ≤ r.most)
 -- whether it does
 abbrev pub within : Range → ℕ → Bool
 within r n = nat_le r.least n && nat_le n r.most
+
+-- from the first to the last of some numbers that rise
+abbrev pub ends : List ℕ → Range
+ends ns = range (slice_index ns 0) (slice_index ns (length ns - 1))
 
 -- of a section, in mm
 abbrev pub widths : Range

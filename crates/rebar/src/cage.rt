@@ -1,4 +1,5 @@
-ghost use Rattle.std.specs.Prelude.{◌≡◌, ◌%◌, ◌≤◌};
+ghost use Rattle.std.specs.Prelude.{◌≡◌, ◌%◌};
+ghost use Rattle.rebar.specs.Ranges.{Within, main_marks, tie_marks, bar_numbers, spacings, spacing_step};
 
 mod face_sizes; // diameter and area of the bars of a face
 pub mod order; // the six numbers of a cage, and the order by them
@@ -9,8 +10,8 @@ mod tie_sizes; // diameter and area of ties
 pub struct Bars {
     pub mark: u8,
     pub number: u8,
-    ghost marked: { (3 ≤ mark) × (mark ≤ 11) },
-    ghost counted: { (2 ≤ number) × (number ≤ 12) },
+    ghost marked: { Within main_marks mark },
+    ghost counted: { Within bar_numbers number },
 }
 
 // Closed two-leg stirrups: their mark, and their spacing in mm.
@@ -18,8 +19,8 @@ pub struct Bars {
 pub struct Ties {
     pub mark: u8,
     pub spacing: u16,
-    ghost marked: { (3 ≤ mark) × (mark ≤ 5) },
-    ghost spaced: { (50 ≤ spacing) × (spacing ≤ 600) × (spacing % 25 ≡ 0) },
+    ghost marked: { Within tie_marks mark },
+    ghost spaced: { Within spacings spacing × (spacing % spacing_step ≡ 0) },
 }
 
 // A cage: bottom and top bars over the whole clear span, and ties at one spacing.

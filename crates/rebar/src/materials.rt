@@ -1,5 +1,6 @@
 ghost use Rattle.std.specs.Prelude.{◌≡◌, ◌≤◌, true, slice_index};
-ghost use Rattle.rebar.specs.Grades.{is_concrete, is_steel, grade_place, root_of, IsRoot, block_factor_of, least_ratios_2800, least_ratios_4200, least_ratio_of};
+ghost use Rattle.rebar.specs.Ranges.{Within, aggregates, ends};
+ghost use Rattle.rebar.specs.Grades.{concrete_grades, steel_grades, is_concrete, is_steel, grade_place, root_of, IsRoot, block_factor_of, least_ratios_2800, least_ratios_4200, least_ratio_of};
 
 // What the standards give for a grade of concrete: the root of the grade, the factor of the stress block, and the
 // least ratio of tension steel with each grade of steel.
@@ -57,11 +58,11 @@ pub struct Materials {
     pub concrete: u16,
     pub steel: u16,
     pub aggregate: u16,
-    ghost poured: { (180 ≤ concrete) × (concrete ≤ 420) },
+    ghost poured: { Within (ends concrete_grades) concrete },
     ghost graded: { is_concrete concrete ≡ true },
-    ghost strong: { (2800 ≤ steel) × (steel ≤ 4200) },
+    ghost strong: { Within (ends steel_grades) steel },
     ghost rolled: { is_steel steel ≡ true },
-    ghost coarse: { (10 ≤ aggregate) × (aggregate ≤ 40) },
+    ghost coarse: { Within aggregates aggregate },
 }
 
 // Whether there is concrete of this grade.

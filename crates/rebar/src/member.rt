@@ -1,5 +1,6 @@
-ghost use Rattle.std.specs.Prelude.{◌≡◌, ◌≤◌, true};
-ghost use Rattle.rebar.specs.Grades.{is_shear_factor};
+ghost use Rattle.std.specs.Prelude.{◌≡◌, true};
+ghost use Rattle.rebar.specs.Grades.{shear_factors, is_shear_factor};
+ghost use Rattle.rebar.specs.Ranges.{Within, spans, ends};
 
 // What a beam is in its building: whether it belongs to the frame that resists earthquakes, its clear span in mm,
 // and the strength reduction factor for shear in hundredths.
@@ -8,8 +9,8 @@ pub struct Member {
     pub in_frame: bool,
     pub span: u16,
     pub shear_factor: u16,
-    ghost spans: { (1000 ≤ span) × (span ≤ 12000) },
-    ghost reduces: { (60 ≤ shear_factor) × (shear_factor ≤ 75) },
+    ghost spans: { Within spans span },
+    ghost reduces: { Within (ends shear_factors) shear_factor },
     ghost listed: { is_shear_factor shear_factor ≡ true },
 }
 

@@ -1,4 +1,4 @@
-ghost use Rattle.std.specs.Prelude.{◌≤◌};
+ghost use Rattle.rebar.specs.Ranges.{Within, widths, heights, covers};
 
 // A rectangular section in mm: width, height, and cover from the concrete's face to the tie.
 #[derive(Clone, Copy)]
@@ -6,7 +6,7 @@ pub struct Section {
     pub width: u16,
     pub height: u16,
     pub cover: u16,
-    ghost wide: { (250 ≤ width) × (width ≤ 800) },
-    ghost high: { (250 ≤ height) × (height ≤ 900) },
-    ghost covered: { (20 ≤ cover) × (cover ≤ 75) },
+    ghost wide: { Within widths width },
+    ghost high: { Within heights height },
+    ghost covered: { Within covers cover },
 }

@@ -23,7 +23,7 @@ same_ties_place : (a b : Ties) → ties_place a ≡ ties_place b → a ≡ b
 same_ties_place a b e =
     let m : a.mark ≡ b.mark = omega arith in
     let q : a.spacing / 25 ≡ b.spacing / 25 = omega arith in
-    same_ties a b m (omega (arith, a.spaced.2, b.spaced.2))
+    same_ties a b m (omega (arith, a.spaced.1, b.spaced.1))
 
 -- the list of all has them there
 pub bars_here : (bars : List Bars) → IsByPlace bars_place bars BARS → (k : ℕ) (t : Bars) → k < BARS

@@ -1,5 +1,6 @@
 -- The kinds of bar marks, by number, and the marks that the yard knows in each.
-use Rattle.std.specs.Prelude.{◌≡◌, ◌≢◌, ℕ, Bool, ◌&&◌, nat_le, Result, MatchResult}
+use Rattle.std.specs.Prelude.{◌≡◌, ◌≢◌, ℕ, Bool, Result, MatchResult}
+use Rattle.rebar.specs.Ranges.{within, main_marks, tie_marks}
 use Rattle.stock.specs.declared.kind.Kind.{Kind}
 use Rattle.stock.specs.declared.kind.Kind.TheVariants.{Main, Tie}
 use Rattle.stock.specs.declared.kind.UnknownKind.{UnknownKind}
@@ -8,10 +9,10 @@ abbrev pub kind_number : Kind → ℕ
 kind_number Main = 0
 kind_number Tie = 1
 
--- main marks are 3 to 11, tie marks 3 to 5
+-- the marks that there are in a kind
 abbrev pub known : Kind → ℕ → Bool
-known Main mark = nat_le 3 mark && nat_le mark 11
-known Tie mark = nat_le 3 mark && nat_le mark 5
+known Main mark = within main_marks mark
+known Tie mark = within tie_marks mark
 
 -- the kind with this number, or the number where no kind has it
 abbrev pub IsKindOf : ℕ → Result Kind UnknownKind → Type 0
