@@ -1,7 +1,7 @@
 -- How a card is laid out: its fields in the order of their bits.
 use Rattle.std.specs.Prelude.{◌≡◌, ℕ, Bool, List, [], ◌∷◌, ◌++◌, map, slice_index, refl}
 use Rattle.rebar.specs.Grades.{is_concrete, is_steel, is_shear_factor}
-use Rattle.rebar.specs.Ranges.{range, within, widths, heights, covers, aggregates, spans}
+use Rattle.rebar.specs.Ranges.{Range, range, within, widths, heights, covers, aggregates, spans}
 use Rattle.card.specs.declared.layout.Field.{Field}
 use Rattle.card.specs.declared.layout.Field.TheVariants.{Width, Height, Cover, Concrete, Steel, Aggregate, Frame, Span, ShearFactor}
 use Rattle.card.specs.declared.layout.LoadCase.{LoadCase}
@@ -72,3 +72,7 @@ case_size Earthquake = refl
 -- the least cover, in mm
 abbrev pub least_cover : ℕ
 least_cover = covers.least
+
+-- what the least cover may be raised to: not above the cover that an absent field means
+abbrev pub least_covers : Range
+least_covers = range covers.least (layout Cover).default

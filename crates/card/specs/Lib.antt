@@ -6,3 +6,4 @@ pub mod Parts
 pub mod Card
 pub mod Reads
 pub mod Order
+pub mod WellFormed

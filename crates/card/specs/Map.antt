@@ -1,5 +1,5 @@
 -- The map of a card: which fields stand, and where each begins.
-use Rattle.std.specs.Prelude.{◌≡◌, ℕ, zero, suc, ◌+◌, ◌/◌, ◌%◌, ◌^◌, ◌≤◌, Bool, true, cond, ◌&&◌, ◌==◌, nat_le}
+use Rattle.std.specs.Prelude.{◌≡◌, ℕ, zero, suc, ◌+◌, ◌/◌, ◌%◌, ◌^◌, ◌≤◌, Bool, true, cond, ◌&&◌, List, [], ◌∷◌, ◌==◌, nat_le}
 use Rattle.card.specs.declared.layout.Field.TheVariants.{Width, Height, Concrete, Span}
 use Rattle.card.specs.declared.layout.LoadCase.TheVariants.{Dead}
 use Rattle.card.specs.Layout.{layout, load_bit, size}
@@ -17,12 +17,18 @@ offset map (suc k) = offset map k + cond (stands map k) (size k) 0
 abbrev pub unknown : ℕ → Bool
 unknown map = nat_le (2 ^ 13) map
 
+-- the bits of the fields that may not be absent: 0, 1, 3, 7 and 9
+abbrev pub required_bits : List ℕ
+required_bits = (layout Width).bit ∷ (layout Height).bit ∷ (layout Concrete).bit ∷ (layout Span).bit ∷ load_bit Dead ∷ []
+
+-- whether all of some bits are set
+abbrev pub all_stand : ℕ → List ℕ → Bool
+all_stand map [] = true
+all_stand map (bit ∷ bits) = stands map bit && all_stand map bits
+
 -- whether every required field stands
 unfoldable pub required : ℕ → Bool
-required map =
-    stands map (layout Width).bit
-    && (stands map (layout Height).bit
-    && (stands map (layout Concrete).bit && (stands map (layout Span).bit && stands map (load_bit Dead))))
+required map = all_stand map required_bits
 
 -- a field that stands begins at a place, and lies there whole
 pub record Begins (map bit bytes at : ℕ) : Type 0 where

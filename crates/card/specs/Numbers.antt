@@ -1,8 +1,9 @@
 -- Numbers on a card, the high byte first.
 -- `map` is the card's map, `rest` the bytes after the map; places in `rest` count from 0.
-use Rattle.std.specs.Prelude.{ℕ, ◌+◌, ◌*◌, Bool, cond, ◌&&◌, List, ℤ, pos, negsuc, None, Option, ◌==◌, int_le, slice_index}
+use Rattle.std.specs.Prelude.{ℕ, ◌+◌, ◌*◌, cond, List, ℤ, None, Option, ◌==◌, slice_index}
 use Rattle.std.proofs.Common.{to_z}
 use Rattle.std.specs.Int.{w32}
+use Rattle.loads.specs.Effects.{moderate}
 use Rattle.card.specs.declared.fault.Fault.{Fault}
 use Rattle.card.specs.declared.layout.Field.{Field}
 use Rattle.card.specs.Faults.{range_fault}
@@ -33,10 +34,6 @@ value f map rest = cond (stands map (layout f).bit) (number_at f rest (offset ma
 -- an absent field has no fault
 unfoldable pub field_fault : Field → ℕ → ℕ → List ℕ → Option Fault
 field_fault f least map rest = cond (stands map (layout f).bit) (number_fault f least rest (offset map (layout f).bit)) None
-
--- a moment or a shear is from -100,000 to 100,000
-abbrev pub moderate : ℤ → Bool
-moderate z = int_le (negsuc 99999) z && int_le z (pos 100000)
 
 -- the fault of a moment or a shear
 unfoldable pub load_fault : List ℕ → ℕ → Option Fault

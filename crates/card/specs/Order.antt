@@ -1,6 +1,7 @@
 -- The numbers of a card in byte order: a bad value is reported at the first of them that is out of range.
 use Rattle.std.specs.Prelude.{◌≡◌, ℕ, ◌+◌, Bool, true, false, cond, ◌⊎◌, List, [], ◌∷◌, ◌++◌, Some, Ok, Err, Result}
 use Rattle.std.specs.List.{AllByRecursion}
+use Rattle.loads.specs.Effects.{moderate}
 use Rattle.rebar.specs.declared.beam.Beam.{Beam}
 use Rattle.card.specs.declared.fault.Fault.{Fault}
 use Rattle.card.specs.declared.fault.FaultKind.TheVariants.{OutOfRange}
@@ -12,7 +13,7 @@ use Rattle.card.specs.Card.{shape_fault, map_of, rest_of}
 use Rattle.card.specs.Faults.{fault}
 use Rattle.card.specs.Layout.{layout, load_bit, least_cover}
 use Rattle.card.specs.Map.{stands, offset}
-use Rattle.card.specs.Numbers.{number_at, signed_at, moderate}
+use Rattle.card.specs.Numbers.{number_at, signed_at}
 
 -- a number that stands on the card: its first byte, and whether it is in range
 pub record Number : Type 0 where

@@ -1,6 +1,8 @@
-ghost use Rattle.std.specs.Prelude.{◌≡◌, ◌≤◌, true, length};
+ghost use Rattle.std.specs.Prelude.{◌≡◌, true, length};
+ghost use Rattle.rebar.specs.Ranges.{Within};
 ghost use Rattle.card.specs.Card.{shape_fault};
 ghost use Rattle.card.specs.Faults.{Answers};
+ghost use Rattle.card.specs.Layout.{least_covers};
 ghost use Rattle.card.specs.Map.{offset, required};
 
 use crate::fault::{Fault, FaultKind};
@@ -16,7 +18,7 @@ pub(crate) struct Body<'a> {
     least_cover: u16,
     ghost complete: { required map.bits ≡ true },
     ghost whole: { length rest.now ≡ offset map.bits 13 },
-    ghost covers: { (20 ≤ least_cover) × (least_cover ≤ 40) },
+    ghost covers: { Within least_covers least_cover },
 }
 
 impl<'a> Body<'a> {
@@ -24,7 +26,7 @@ impl<'a> Body<'a> {
 
     // The body of a card, or the fault of its map or length. The cover that an absent field means, 40, may not be below the least.
     pub(crate) fn of(card: &'a [u8], least_cover: u16) -> Result<Body<'a>, Fault>
-        requires { (20 ≤ least_cover) × (least_cover ≤ 40) }
+        requires { Within least_covers least_cover }
         ensures { Answers (shape_fault card.now) (IsBodyOf card.now least_cover) result }
     {
         let [high, low, rest @ ..] = card else {

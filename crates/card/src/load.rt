@@ -1,6 +1,6 @@
 ghost use Rattle.std.specs.Prelude.{◌≡◌, ◌+◌, ◌≤◌, length};
+ghost use Rattle.loads.specs.Effects.{moderate};
 ghost use Rattle.card.specs.Faults.{Answers};
-ghost use Rattle.card.specs.Numbers.{moderate};
 ghost use Rattle.card.specs.Parts.{force_fault, forces_fault, ForceAt, ForcesAt};
 ghost use Rattle.card.specs.Reads.{LoadAs};
 

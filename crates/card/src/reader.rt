@@ -1,5 +1,6 @@
-ghost use Rattle.std.specs.Prelude.{◌≤◌};
+ghost use Rattle.rebar.specs.Ranges.{Within};
 ghost use Rattle.card.specs.Card.{CardByCover, CardAs};
+ghost use Rattle.card.specs.Layout.{least_covers};
 ghost use Rattle.card.specs.Order.{Judges};
 
 use crate::body::Body;
@@ -11,7 +12,7 @@ const LEAST_COVER: u16 = 20;
 
 // The beam of a card, or the card's first fault, where covers below the least are refused.
 fn read(card: &[u8], least_cover: u16) -> Result<Beam, Fault>
-    requires { (20 ≤ least_cover) × (least_cover ≤ 40) }
+    requires { Within least_covers least_cover }
     ensures { CardByCover least_cover card.now result }
 {
     Body::of(card, least_cover)?.beam()

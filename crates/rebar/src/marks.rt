@@ -1,5 +1,6 @@
 ghost use Rattle.std.specs.Prelude.{◌≡◌, ◌≤◌};
 ghost use Rattle.rebar.specs.Marks.{bar_diameter, bar_area};
+ghost use Rattle.rebar.specs.Ranges.{Within, main_marks, tie_marks};
 
 // What bars of a mark measure: the diameter in tenths of a mm, and the area in mm².
 #[derive(Clone, Copy)]
@@ -50,11 +51,11 @@ const SIZES: [Size; 9] = [
 
 // What bars of this mark measure.
 pub(crate) fn size_of(mark: u8) -> Size
-    requires { (3 ≤ mark) × (mark ≤ 11) }
+    requires { Within main_marks mark }
     ensures diameter { result.diameter ≡ bar_diameter mark }
     ensures area { result.area ≡ bar_area mark }
     ensures bounded { (result.diameter ≤ 358) × (result.area ≤ 1006) }
-    ensures thin { mark ≤ 5 → (result.diameter ≤ 159) × (result.area ≤ 199) }
+    ensures thin { Within tie_marks mark → (result.diameter ≤ 159) × (result.area ≤ 199) }
 {
     SIZES[(mark - 3) as usize]
 }
