@@ -1,3 +1,4 @@
 pub mod Rows
 pub mod Offsets
 pub mod First
+pub mod WellFormed
