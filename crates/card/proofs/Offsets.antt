@@ -36,6 +36,9 @@ offset_bound map (suc k) h =
     let here = size_bound k (omega arith) in
     grind arith
 
+-- the first of some bytes stands where they begin
+pub ruleset shifts = (add-zero)
+
 -- what one more field adds
 pub ruleset steps = (offset_none, offset_standing, offset_absent, size_below, size_bound, offset_bound)
 

@@ -63,6 +63,7 @@ impl Bytes<'_, 8> {
 
 impl Bytes<'_, 24> {
     // The three forces of a load case, or their first fault.
+    #[tactic(auto, using(crate::proofs::Offsets::shifts))]
     pub(crate) fn forces(&self) -> Result<Case, Fault>
         ensures { Answers (forces_fault self.now.rest.now self.now.at) (ForcesAt self.now.rest.now self.now.at) result }
     {
