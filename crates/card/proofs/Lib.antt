@@ -1,4 +1,5 @@
 pub mod Rows
 pub mod Offsets
 pub mod First
+pub mod Bits
 pub mod WellFormed

@@ -1,9 +1,7 @@
 -- A card has no fault exactly where it is well formed.
 use Rattle.std.proofs.Common.{◌≡◌, ℕ, zero, suc, ◌+◌, ◌*◌, ◌/◌, ◌%◌, ◌^◌, ◌<◌, ◌≤◌, ◌↔◌, Bool, true, false, cond, List, Some, None, Ok, Err, Option, Result, ◌==◌, refl, sym, ap, ◌∙◌, subst, arith, length}
-use Rattle.std.proofs.Math.Nat.{div-div-eq-div-mul, div-eq_of_lt, pow-le-pow_right}
 use Rattle.std.proofs.lemmas.Bool.Decides.{nat_tests}
 use Rattle.std.proofs.lemmas.Int.{ints}
-use Rattle.std.proofs.lemmas.Nat.{pow-add}
 use Rattle.std.specs.Prelude.{ℤ, IsOk, nat_lt}
 use Rattle.std.specs.List.{AllByRecursion}
 use Rattle.loads.specs.Effects.{Moderate, moderate}
@@ -19,37 +17,8 @@ use Rattle.card.specs.Layout.{layout, load_bit, least_cover}
 use Rattle.card.specs.Map.{stands, unknown, required_bits, required, offset}
 use Rattle.card.specs.Numbers.{field_fault, number_fault, load_fault, number_at, signed_at}
 use Rattle.card.specs.Parts.{section_fault, materials_fault, member_fault, case_fault, forces_fault, force_fault, loads_fault, values_fault}
+use Rattle.card.proofs.Bits.{known_exactly}
 use Rattle.card.specs.WellFormed.{WellFormed, FieldsFine, LoadsFine, TakenExactly}
-
--- the bits of a number's quotient by a power of two are its higher bits
-higher : (m k bit : ℕ) → stands (m / 2 ^ k) bit ≡ stands m (k + bit)
-unfolding stands
-higher m k bit = ap (λ (x : ℕ). x % 2 == 1) (div-div-eq-div-mul m (2 ^ k) (2 ^ bit) ∙ ap (λ (x : ℕ). m / x) (sym (pow-add 2 k bit)))
-
-even : (m : ℕ) → m / 2 ≡ 0 → stands m 0 ≡ false → m ≡ 0
-unfolding stands
-even m h off = grind (arith, nat_tests)
-
--- a number whose bits are all 0
-no_bits : (n m : ℕ) → m ≤ n → ((bit : ℕ) → stands m bit ≡ false) → m ≡ 0
-no_bits zero m le off = omega arith
-no_bits (suc n) m le off =
-    let half : m / 2 ≤ n = omega arith in
-    even m (no_bits n (m / 2) half (λ bit. higher m 1 bit ∙ off (1 + bit))) (off 0)
-
--- a map has no bit above 12 exactly where it is below the thirteenth power of two
-low : (map : ℕ) → ((bit : ℕ) → 12 < bit → stands map bit ≡ false) → map < 2 ^ 13
-low map off =
-    let all : map / 2 ^ 13 ≤ map / 2 ^ 13 = omega arith in
-    let none : map / 2 ^ 13 ≡ 0 = no_bits (map / 2 ^ 13) (map / 2 ^ 13) all (λ bit. higher map 13 bit ∙ off (13 + bit) (omega arith)) in
-    omega arith
-
-bits_of_low : (map bit : ℕ) → map < 2 ^ 13 → 12 < bit → stands map bit ≡ false
-unfolding stands
-bits_of_low map bit lt above =
-    let far : 2 ^ 13 ≤ 2 ^ bit = pow-le-pow_right (omega arith) {i = 13} {j = bit} (omega arith) in
-    let none : map / 2 ^ bit ≡ 0 = div-eq_of_lt {n = map} {m = 2 ^ bit} (omega arith) in
-    rw none refl
 
 -- neither of two faults
 neither : (a b : Option Fault) → first a b ≡ None → (a ≡ None) × (b ≡ None)
@@ -138,10 +107,6 @@ case_exactly case map rest =
     absent false a h = refl
 
 module _ (map : ℕ) (rest : List ℕ) where
-  shape : (n : ℕ) → map_fault map n ≡ None → (unknown map ≡ false) × (required map ≡ true) × (n ≡ 2 + offset map 13)
-  unfolding map_fault
-  shape n h = (grind (arith, nat_tests), grind (arith, nat_tests), grind (arith, nat_tests))
-
   parts : values_fault least_cover map rest ≡ None
       → (section_fault least_cover map rest ≡ None) × (materials_fault least_cover map rest ≡ None)
       × (member_fault least_cover map rest ≡ None) × (loads_fault map rest ≡ None)
@@ -188,13 +153,16 @@ module _ (map : ℕ) (rest : List ℕ) where
       let case : (k : LoadCase) → case_fault k map rest ≡ None = λ k. (case_exactly k map rest).1 (loads k) in
       simp (field, case)
 
-  standing : required map ≡ true → AllByRecursion (λ bit. stands map bit ≡ true) required_bits
-  unfolding required
-  standing h = grind arith
+required_exactly : (map : ℕ) → (required map ≡ true) ↔ AllByRecursion (λ bit. stands map bit ≡ true) required_bits
+unfolding required
+required_exactly map = (λ h. grind arith, λ h. grind arith)
 
-  all_required : AllByRecursion (λ bit. stands map bit ≡ true) required_bits → required map ≡ true
-  unfolding required
-  all_required h = grind arith
+-- map and length
+shape_exactly : (map n : ℕ)
+    → (map_fault map n ≡ None) ↔ ((unknown map ≡ false) × (required map ≡ true) × (n ≡ 2 + offset map 13))
+unfolding map_fault
+shape_exactly map n =
+    (λ h. (grind (arith, nat_tests), grind (arith, nat_tests), grind (arith, nat_tests)), λ h. grind (arith, nat_tests))
 
 -- the two bytes of the map
 bytes_of_map : (n : ℕ) (e : Fault) (a : Option Fault) → cond (nat_lt n 2) (Some e) a ≡ None → (2 ≤ n) × (a ≡ None)
@@ -203,13 +171,7 @@ bytes_of_map n e a h = (grind (arith, nat_tests), grind (arith, nat_tests))
 no_fault : (n : ℕ) (e : Fault) (a : Option Fault) → 2 ≤ n → a ≡ None → cond (nat_lt n 2) (Some e) a ≡ None
 no_fault n e a two h = grind (arith, nat_tests)
 
-unknown_exactly : (map : ℕ) → (unknown map ≡ false) ↔ (map < 2 ^ 13)
-unknown_exactly map = (λ h. grind (arith, nat_tests), λ h. grind (arith, nat_tests))
-
-shaped : (map n : ℕ) → unknown map ≡ false → required map ≡ true → n ≡ 2 + offset map 13 → map_fault map n ≡ None
-unfolding map_fault
-shaped map n u r e = grind (arith, nat_tests)
-
+-- a card has no fault exactly where it is well formed
 faultless : (card : List ℕ) → (card_fault card ≡ None) ↔ WellFormed card
 unfolding card_fault
 faultless card = (there, back)
@@ -218,20 +180,20 @@ faultless card = (there, back)
     there h =
         let p = neither (shape_fault card) (values_fault least_cover (map_of card) (rest_of card)) h in
         let two = bytes_of_map (length card) _ _ p.0 in
-        let s = shape (map_of card) (rest_of card) (length card) two.1 in
+        let s = (shape_exactly (map_of card) (length card)).0 two.1 in
         record {
           mapped = two.0;
-          known = λ bit above. bits_of_low (map_of card) bit ((unknown_exactly (map_of card)).0 s.0) above;
-          required = standing (map_of card) (rest_of card) s.1;
+          known = (known_exactly (map_of card)).0 s.0;
+          required = (required_exactly (map_of card)).0 s.1;
           whole = s.2;
           fields = λ f. (field_exactly f (map_of card) (rest_of card)).0 (each_field (map_of card) (rest_of card) p.1 f);
           loads = λ case. (case_exactly case (map_of card) (rest_of card)).0 (each_case (map_of card) (rest_of card) p.1 case);
         }
     back : WellFormed card → card_fault card ≡ None
     back w =
-        let u = (unknown_exactly (map_of card)).1 (low (map_of card) w.known) in
-        let r = all_required (map_of card) (rest_of card) w.required in
-        let m = shaped (map_of card) (length card) u r w.whole in
+        let u = (known_exactly (map_of card)).1 w.known in
+        let r = (required_exactly (map_of card)).1 w.required in
+        let m = (shape_exactly (map_of card) (length card)).1 (u, r, w.whole) in
         let v = values (map_of card) (rest_of card) w.fields w.loads in
         rw (no_fault (length card) _ _ w.mapped m, v) refl
 
