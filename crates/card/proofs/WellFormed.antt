@@ -14,7 +14,7 @@ use Rattle.card.specs.declared.layout.LoadCase.TheVariants.{Dead, Live, Wind, Ea
 use Rattle.card.specs.Card.{map_of, rest_of, map_fault, shape_fault, card_fault, CardAs}
 use Rattle.card.specs.Faults.{first}
 use Rattle.card.specs.Layout.{layout, load_bit, least_cover}
-use Rattle.card.specs.Map.{stands, unknown, required_bits, required, offset}
+use Rattle.card.specs.Map.{stands, unknown, required_bits, required, offset, asked_bytes}
 use Rattle.card.specs.Numbers.{field_fault, number_fault, load_fault, number_at, signed_at}
 use Rattle.card.specs.Parts.{section_fault, materials_fault, member_fault, case_fault, forces_fault, force_fault, loads_fault, values_fault}
 use Rattle.card.proofs.Bits.{known_exactly}
@@ -159,7 +159,7 @@ required_exactly map = (λ h. grind arith, λ h. grind arith)
 
 -- map and length
 shape_exactly : (map n : ℕ)
-    → (map_fault map n ≡ None) ↔ ((unknown map ≡ false) × (required map ≡ true) × (n ≡ 2 + offset map 13))
+    → (map_fault map n ≡ None) ↔ ((unknown map ≡ false) × (required map ≡ true) × (n ≡ asked_bytes map))
 unfolding map_fault
 shape_exactly map n =
     (λ h. (grind (arith, nat_tests), grind (arith, nat_tests), grind (arith, nat_tests)), λ h. grind (arith, nat_tests))

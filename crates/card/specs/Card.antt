@@ -5,7 +5,7 @@ use Rattle.card.specs.declared.fault.Fault.{Fault}
 use Rattle.card.specs.declared.fault.FaultKind.TheVariants.{BytesMissing, UnknownBit, RequiredBitAbsent, BytesOver}
 use Rattle.card.specs.Faults.{fault, first, Answers}
 use Rattle.card.specs.Layout.{least_cover}
-use Rattle.card.specs.Map.{unknown, required, offset}
+use Rattle.card.specs.Map.{unknown, required, asked_bytes}
 use Rattle.card.specs.Parts.{values_fault, SectionIs, MaterialsIs, MemberIs, LoadsIs}
 
 -- the map is the first two bytes, the high byte first
@@ -21,13 +21,13 @@ unfoldable pub map_fault : ℕ → ℕ → Option Fault
 map_fault map bytes =
     cond (unknown map) (Some (fault UnknownBit 0))
     (cond (not (required map)) (Some (fault RequiredBitAbsent 0))
-    (cond (nat_lt bytes (2 + offset map 13)) (Some (fault BytesMissing bytes))
-    (cond (nat_lt (2 + offset map 13) bytes) (Some (fault BytesOver (2 + offset map 13)))
+    (cond (nat_lt bytes (asked_bytes map)) (Some (fault BytesMissing bytes))
+    (cond (nat_lt (asked_bytes map) bytes) (Some (fault BytesOver (asked_bytes map)))
     None)))
 
 -- a map and a length without fault
 abbrev pub Shaped : ℕ → ℕ → Type 0
-Shaped map bytes = (required map ≡ true) × (bytes ≡ 2 + offset map 13)
+Shaped map bytes = (required map ≡ true) × (bytes ≡ asked_bytes map)
 
 -- the fault of a card's map or length
 abbrev pub shape_fault : List ℕ → Option Fault

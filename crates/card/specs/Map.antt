@@ -13,6 +13,10 @@ unfoldable pub offset : ℕ → ℕ → ℕ
 offset map zero = 0
 offset map (suc k) = offset map k + cond (stands map k) (size k) 0
 
+-- how many bytes a card with this map has: the two of the map, and those of the fields that stand
+abbrev pub asked_bytes : ℕ → ℕ
+asked_bytes map = 2 + offset map 13
+
 -- whether a bit above 12 is set
 abbrev pub unknown : ℕ → Bool
 unknown map = nat_le (2 ^ 13) map

@@ -8,7 +8,7 @@ use Rattle.card.specs.declared.layout.Field.{Field}
 use Rattle.card.specs.declared.layout.LoadCase.{LoadCase}
 use Rattle.card.specs.Card.{map_of, rest_of}
 use Rattle.card.specs.Layout.{layout, load_bit, least_cover}
-use Rattle.card.specs.Map.{stands, required_bits, offset}
+use Rattle.card.specs.Map.{stands, required_bits, offset, asked_bytes}
 use Rattle.card.specs.Numbers.{number_at, signed_at}
 
 -- each field of one number that stands holds a number that it may hold
@@ -31,8 +31,8 @@ pub record WellFormed (card : List ℕ) : Type 0 where
   pub known : (bit : ℕ) → 12 < bit → stands (map_of card) bit ≡ false
   -- width, height, concrete, span and dead load stand
   pub required : AllByRecursion (λ bit. stands (map_of card) bit ≡ true) required_bits
-  -- it is as long as its map and the fields that stand
-  pub whole : length card ≡ 2 + offset (map_of card) 13
+  -- it is as long as its map asks for
+  pub whole : length card ≡ asked_bytes (map_of card)
   pub fields : FieldsFine (map_of card) (rest_of card)
   pub loads : LoadsFine (map_of card) (rest_of card)
 

@@ -25,10 +25,16 @@ placed : (f : ℕ) → is_concrete f ≡ true → grade_place f < 6
 unfolding is_concrete grade_place
 placed f made = grind (arith, nat_tests)
 
-pub root_fits : (f r : ℕ) → is_concrete f ≡ true → r ≡ root_of f → IsRoot f r
+root_fits : (f r : ℕ) → is_concrete f ≡ true → r ≡ root_of f → IsRoot f r
 unfolding is_concrete grade_place root_of
 root_fits f r made is =
     let k = place_in concrete_grades f in
     let here = both _ _ _ _ (at fits roots tt k (placed f made)) in
     let h = subst (λ (x : ℕ). IsRoot x (get_or roots k 0)) (at_its_place concrete_grades f made) here in
     subst (λ (x : ℕ). IsRoot f x) (sym is) h
+
+pub root_below : (f r : ℕ) → is_concrete f ≡ true → r ≡ root_of f → r * r ≤ 1000000 * f
+root_below f r made is = (root_fits f r made is).0
+
+pub root_close : (f r : ℕ) → is_concrete f ≡ true → r ≡ root_of f → 1000000 * f < (r + 1) * (r + 1)
+root_close f r made is = (root_fits f r made is).1

@@ -103,6 +103,7 @@ impl Materials {
     }
 
     // The whole part of 1,000 times the square root of the concrete grade.
+    #[tactic(auto, using(crate::proofs::Roots::root_below, crate::proofs::Roots::root_close))]
     pub fn root(&self) -> u32
         ensures root_of_the_grade { result ≡ root_of self.now.concrete }
         ensures square_just_below { IsRoot self.now.concrete result }

@@ -40,6 +40,7 @@ impl Beam {
     }
 
     // The steel of the bars of one face, in mm³.
+    #[tactic(auto, using(crate::proofs::Bounds::bars), unfolding(crate::specs::Steel::bars_steel))]
     pub fn bars_steel(&self, bars: &Bars) -> u32
         ensures steel_of_the_bars { result ≡ bars_steel self.now bars.now }
         ensures bounded { result ≤ 144864000 }
@@ -48,6 +49,7 @@ impl Beam {
     }
 
     // The steel of the ties, in mm³.
+    #[tactic(auto, using(crate::proofs::Bounds::ties), unfolding(crate::specs::Steel::ties_steel))]
     pub fn ties_steel(&self, ties: &Ties) -> u32
         ensures steel_of_the_ties { result ≡ ties_steel self.now ties.now }
         ensures bounded { result ≤ 163229352 }

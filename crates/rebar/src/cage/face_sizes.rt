@@ -14,6 +14,7 @@ impl Bars {
     }
 
     // The area of all the bars, in mm².
+    #[tactic(auto, using(crate::proofs::Bounds::face), unfolding(crate::specs::Marks::face_area))]
     pub fn area(&self) -> u32
         ensures area_of_the_face { result ≡ face_area self.now }
         ensures bounded { result ≤ 12072 }
