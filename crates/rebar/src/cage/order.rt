@@ -10,6 +10,7 @@ use std::cmp::Ordering;
 
 impl Cage {
     // The six numbers, in their order: bottom mark and number, top mark and number, tie mark and spacing.
+    #[tactic(auto, using(crate::proofs::Same::same_numbers))]
     pub fn numbers(&self) -> [u16; 6]
         ensures the_six_numbers { result ≡ numbers self.now }
         ensures of_no_other_cage { (c : Cage) → numbers c ≡ result → c ≡ self.now }
