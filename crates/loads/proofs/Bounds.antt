@@ -6,6 +6,7 @@ use Rattle.std.proofs.ByRecursion.{All-append, All-map, All-weaker}
 use Rattle.loads.specs.declared.loads.Force.{Force}
 use Rattle.loads.specs.declared.loads.Case.{Case}
 use Rattle.loads.specs.declared.loads.Loads.{Loads}
+use Rattle.loads.specs.Effects.{greatest_effect}
 use Rattle.loads.specs.Combinations.{Row, rows, gravity_rows, weighted, unsigned, greatest, least, at_station, combinations, moments, shears, gravity_shears}
 use Rattle.loads.proofs.Peaks.{bounded, most_size, least_size, whole_size}
 
@@ -13,7 +14,7 @@ pub record Within (k : ℕ) (z : ℤ) : Type 0 where
   pub low : neg_ℤ (pos k) ≤ℤ z
   pub high : z ≤ℤ pos k
 
-module _ (d l w e : ℤ) (hd : Within 100000 d) (hl : Within 100000 l) (hw : Within 100000 w) (he : Within 100000 e) where
+module _ (d l w e : ℤ) (hd : Within greatest_effect d) (hl : Within greatest_effect l) (hw : Within greatest_effect w) (he : Within greatest_effect e) where
   pub all_rows : AllByRecursion (Within 3800000) (map (weighted d l w e) rows)
   unfolding rows
   all_rows = (
@@ -50,8 +51,8 @@ module _ (d l w e : ℤ) (hd : Within 100000 d) (hl : Within 100000 l) (hw : Wit
   gravity_alone = (record { low = omega (arith, ints); high = omega (arith, ints) }, (record { low = omega (arith, ints); high = omega (arith, ints) }, tt))
 
 -- the same of every station
-module _ (k : ℕ) (some : List Row) (effect : Force → ℤ) (mild : (f : Force) → Within 100000 (effect f))
-    (each : (d l w e : ℤ) → Within 100000 d → Within 100000 l → Within 100000 w → Within 100000 e → AllByRecursion (Within k) (map (weighted d l w e) some)) where
+module _ (k : ℕ) (some : List Row) (effect : Force → ℤ) (mild : (f : Force) → Within greatest_effect (effect f))
+    (each : (d l w e : ℤ) → Within greatest_effect d → Within greatest_effect l → Within greatest_effect w → Within greatest_effect e → AllByRecursion (Within k) (map (weighted d l w e) some)) where
   at : (loads : Loads) (place : Case → Force) → AllByRecursion (Within k) (at_station effect some loads place)
   at loads place = each _ _ _ _ (mild (place loads.dead)) (mild (place loads.live)) (mild (place loads.wind)) (mild (place loads.earthquake))
 
@@ -59,10 +60,10 @@ module _ (k : ℕ) (some : List Row) (effect : Force → ℤ) (mild : (f : Force
   everywhere loads =
       All-append (Within k) _ _ (at loads (λ c. c.left)) (All-append (Within k) _ _ (at loads (λ c. c.mid)) (at loads (λ c. c.right)))
 
-bend : (f : Force) → Within 100000 f.moment
+bend : (f : Force) → Within greatest_effect f.moment
 bend f = record { low = f.bends.0; high = f.bends.1 }
 
-cut : (f : Force) → Within 100000 f.shear
+cut : (f : Force) → Within greatest_effect f.shear
 cut f = record { low = f.cuts.0; high = f.cuts.1 }
 
 pub moments_within : (loads : Loads) → AllByRecursion (Within 3800000) (moments loads)
