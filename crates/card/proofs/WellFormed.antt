@@ -1,8 +1,8 @@
 -- A card has no fault exactly where it is well formed.
-use Rattle.std.proofs.Common.{◌≡◌, ℕ, zero, suc, ◌+◌, ◌*◌, ◌/◌, ◌%◌, ◌^◌, ◌<◌, ◌≤◌, ◌↔◌, Bool, true, false, cond, List, Some, None, Ok, Err, Option, Result, ◌==◌, refl, sym, ap, ◌∙◌, subst, arith, length}
+use Rattle.std.proofs.Common.{◌≡◌, ℕ, zero, suc, ◌+◌, ◌*◌, ◌<◌, ◌≤◌, ◌↔◌, Bool, true, false, cond, List, Some, None, Ok, Err, Option, Result, refl, subst, arith, length}
 use Rattle.std.proofs.lemmas.Bool.Decides.{nat_tests}
 use Rattle.std.proofs.lemmas.Int.{ints}
-use Rattle.std.specs.Prelude.{ℤ, IsOk, nat_lt}
+use Rattle.std.specs.Prelude.{ℤ, nat_lt}
 use Rattle.std.specs.List.{AllByRecursion}
 use Rattle.loads.specs.Effects.{Moderate, moderate}
 use Rattle.rebar.specs.declared.beam.Beam.{Beam}
@@ -16,7 +16,7 @@ use Rattle.card.specs.Faults.{first}
 use Rattle.card.specs.Layout.{layout, load_bit, least_cover}
 use Rattle.card.specs.Map.{stands, unknown, required_bits, required, offset, asked_bytes}
 use Rattle.card.specs.Numbers.{field_fault, number_fault, load_fault, number_at, signed_at}
-use Rattle.card.specs.Parts.{section_fault, materials_fault, member_fault, case_fault, forces_fault, force_fault, loads_fault, values_fault}
+use Rattle.card.specs.Parts.{section_fault, materials_fault, member_fault, case_fault, forces_fault, loads_fault, values_fault}
 use Rattle.card.proofs.Bits.{known_exactly}
 use Rattle.card.specs.WellFormed.{WellFormed, FieldsFine, LoadsFine, TakenExactly}
 
@@ -46,6 +46,7 @@ field_exactly f map rest = (there (stands map (layout f).bit) _ _, back (stands 
     there : (s t : Bool) (e : Fault) → cond s (cond t None (Some e)) None ≡ None → s ≡ true → t ≡ true
     there true t e h on = passes t e h
     there false t e h on = cc
+
     back : (s t : Bool) (e : Fault) → (s ≡ true → t ≡ true) → cond s (cond t None (Some e)) None ≡ None
     back true t e h = rw (h refl) refl
     back false t e h = refl
@@ -82,10 +83,11 @@ module _ (rest : List ℕ) (at : ℕ) where
           let mid = neither _ _ three.1 in
           let right = neither _ _ three.2 in
           (load_exactly rest (at + 4 * k)).0 (each k lt left.0 left.1 mid.0 mid.1 right.0 right.1)
+
       back : ((k : ℕ) → k < 6 → Moderate (signed_at rest (at + 4 * k))) → forces_fault rest at ≡ None
       back h =
           let free : (j k : ℕ) → k < 6 → at + 4 * k ≡ j → load_fault rest j ≡ None =
-              λ j k lt e. subst Free e ((load_exactly rest (at + 4 * k)).1 (h k lt)) in
+          λ j k lt e. subst Free e ((load_exactly rest (at + 4 * k)).1 (h k lt)) in
           let a = free at 0 (omega arith) (omega arith) in
           let b = free (at + 4) 1 (omega arith) (omega arith) in
           let c = free (at + 8) 2 (omega arith) (omega arith) in
@@ -189,6 +191,7 @@ faultless card = (there, back)
           fields = λ f. (field_exactly f (map_of card) (rest_of card)).0 (each_field (map_of card) (rest_of card) p.1 f);
           loads = λ case. (case_exactly case (map_of card) (rest_of card)).0 (each_case (map_of card) (rest_of card) p.1 case);
         }
+
     back : WellFormed card → card_fault card ≡ None
     back w =
         let u = (known_exactly (map_of card)).1 w.known in
