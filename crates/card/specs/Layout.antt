@@ -18,6 +18,7 @@ pub record Row : Type 0 where
   -- whether it may hold a number: the least cover comes first, then the number
   pub allowed : ℕ → ℕ → Bool
 
+-- the row of these
 abbrev pub row : ℕ → ℕ → ℕ → (ℕ → ℕ → Bool) → Row
 row bit bytes default allowed = record { bit = bit; bytes = bytes; default = default; allowed = allowed }
 
@@ -46,6 +47,7 @@ sizes =
     map (λ f. (layout f).bytes) (Width ∷ Height ∷ Cover ∷ Concrete ∷ Steel ∷ Aggregate ∷ Frame ∷ Span ∷ ShearFactor ∷ [])
     ++ (24 ∷ 24 ∷ 24 ∷ 24 ∷ [])
 
+-- how many bytes the field of a bit takes
 unfoldable pub size : ℕ → ℕ
 size bit = slice_index sizes bit
 
@@ -62,6 +64,7 @@ field_size Frame = refl
 field_size Span = refl
 field_size ShearFactor = refl
 
+-- and so are the 24 bytes of a load case
 pub case_size : (case : LoadCase) → size (load_bit case) ≡ 24
 unfolding size
 case_size Dead = refl

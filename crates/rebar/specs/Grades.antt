@@ -15,6 +15,7 @@ place_in (x ∷ xs) n = cond (n == x) 0 (suc (place_in xs n))
 abbrev pub concrete_grades : List ℕ
 concrete_grades = 180 ∷ 210 ∷ 240 ∷ 280 ∷ 350 ∷ 420 ∷ []
 
+-- whether there is concrete of a grade
 unfoldable pub is_concrete : ℕ → Bool
 is_concrete = one_of concrete_grades
 
@@ -22,6 +23,7 @@ is_concrete = one_of concrete_grades
 abbrev pub steel_grades : List ℕ
 steel_grades = 2800 ∷ 4200 ∷ []
 
+-- whether there is steel of a grade
 unfoldable pub is_steel : ℕ → Bool
 is_steel = one_of steel_grades
 
@@ -29,6 +31,7 @@ is_steel = one_of steel_grades
 abbrev pub shear_factors : List ℕ
 shear_factors = 60 ∷ 75 ∷ []
 
+-- whether there is such a shear factor
 unfoldable pub is_shear_factor : ℕ → Bool
 is_shear_factor = one_of shear_factors
 
@@ -36,16 +39,19 @@ is_shear_factor = one_of shear_factors
 unfoldable pub grade_place : ℕ → ℕ
 grade_place = place_in concrete_grades
 
+-- r of each grade of concrete
 abbrev pub roots : List ℕ
 roots = 13416 ∷ 14491 ∷ 15491 ∷ 16733 ∷ 18708 ∷ 20493 ∷ []
 
+-- β of each
 abbrev pub block_factors : List ℕ
 block_factors = 85 ∷ 85 ∷ 85 ∷ 85 ∷ 80 ∷ 75 ∷ []
 
--- R-033, Table 7, for steel 2800 and for steel 4200
+-- ρ of each with steel 2800 (R-033, Table 7)
 abbrev pub least_ratios_2800 : List ℕ
 least_ratios_2800 = 29 ∷ 31 ∷ 33 ∷ 36 ∷ 40 ∷ 44 ∷ []
 
+-- ρ of each with steel 4200
 abbrev pub least_ratios_4200 : List ℕ
 least_ratios_4200 = 19 ∷ 21 ∷ 22 ∷ 24 ∷ 27 ∷ 29 ∷ []
 

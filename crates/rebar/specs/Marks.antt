@@ -3,9 +3,11 @@ use Rattle.std.specs.Prelude.{ℕ, ◌-◌, ◌*◌, List, [], ◌∷◌, slice_
 use Rattle.rebar.specs.Ranges.{main_marks}
 use Rattle.rebar.specs.declared.cage.Bars.{Bars}
 
+-- in tenths of a mm
 abbrev pub diameters : List ℕ
 diameters = 95 ∷ 127 ∷ 159 ∷ 191 ∷ 222 ∷ 254 ∷ 287 ∷ 323 ∷ 358 ∷ []
 
+-- in mm²
 abbrev pub areas : List ℕ
 areas = 71 ∷ 129 ∷ 199 ∷ 284 ∷ 387 ∷ 510 ∷ 645 ∷ 819 ∷ 1006 ∷ []
 

@@ -6,6 +6,7 @@ pub record Range : Type 0 where
   pub least : ℕ
   pub most : ℕ
 
+-- the range of these ends
 abbrev pub range : ℕ → ℕ → Range
 range least most = record { least = least; most = most }
 
@@ -21,10 +22,11 @@ within r n = nat_le r.least n && nat_le n r.most
 abbrev pub ends : List ℕ → Range
 ends ns = range (slice_index ns 0) (slice_index ns (length ns - 1))
 
--- of a section, in mm
+-- of the width of a section, in mm
 abbrev pub widths : Range
 widths = range 250 800
 
+-- of its height, in mm
 abbrev pub heights : Range
 heights = range 250 900
 
@@ -40,10 +42,11 @@ aggregates = range 10 40
 abbrev pub spans : Range
 spans = range 1000 12000
 
--- of the marks of main bars, and of ties
+-- of the marks of main bars
 abbrev pub main_marks : Range
 main_marks = range 3 11
 
+-- of the marks of ties
 abbrev pub tie_marks : Range
 tie_marks = range 3 5
 
@@ -51,9 +54,10 @@ tie_marks = range 3 5
 abbrev pub bar_numbers : Range
 bar_numbers = range 2 12
 
--- of the spacing of ties, in mm, of which every `spacing_step`-th stands
+-- of the spacing of ties, in mm: a whole number of steps
 abbrev pub spacings : Range
 spacings = range 50 600
 
+-- how far one spacing is from the next, in mm
 abbrev pub spacing_step : ℕ
 spacing_step = 25
