@@ -1,5 +1,5 @@
 -- One turn of each loop of the search, and its end.
-use Rattle.std.proofs.Common.{◌≡◌, ℕ, ◌+◌, ◌<◌, Bool, inl, inr, subst, arith}
+use Rattle.std.proofs.Common.{◌≡◌, ℕ, ◌+◌, ◌<◌, Bool, inl, inr, arith}
 use native.Mathlib.Decide.{dec_lt}
 use Rattle.rebar.specs.declared.beam.Beam.{Beam}
 use Rattle.rebar.specs.declared.cage.Cage.{Cage}
@@ -28,14 +28,14 @@ module _ {answer : Beam → Cage → ℕ} {got : Kind → ℕ → Bool} {beam : 
             ],
       )
 
-  -- the part t is not in stock
-  pub passed : (In : X → Type 0) → {first old new : Decision} → new ≡ old
+  -- the part t is in none of the cages
+  pub passed : {first old new : Decision} → new ≡ old
       → Step answer got beam first old
-      → ((d : Cage) → P d → In (part d)) → (In t → ⊥)
+      → ((d : Cage) → P d → part d ≡ t → ⊥)
       → Done answer beam (λ d. P d × (place (part d) < k)) old
       → Step answer got beam first new × Done answer beam (λ d. P d × (place (part d) < k + 1)) new
-  passed In is r in_stock out done =
-      took is r (record { sound = λ x. x; keeps = λ d x. x }) (λ d p e. absurd (out (subst In e (in_stock d p)))) done
+  passed is r out done =
+      took is r (record { sound = λ x. x; keeps = λ d x. x }) (λ d p e. absurd (out d p e)) done
 
 -- all places done
 pub settled : (answer : Beam → Cage → ℕ) (got : Kind → ℕ → Bool) (beam : Beam) (r : Decision) → Sound answer got beam r

@@ -9,6 +9,7 @@ use Rattle.rebar.specs.Steel.{steel}
 use Rattle.books.specs.Answers.{Passes}
 use Rattle.stock.specs.declared.kind.Kind.{Kind}
 use Rattle.stock.specs.declared.kind.Kind.TheVariants.{Main, Tie}
+use Rattle.search.specs.declared.band.Band.{Band}
 use Rattle.search.specs.declared.decision.Choice.{Choice}
 use Rattle.search.specs.declared.decision.Decision.{Decision}
 use Rattle.search.specs.declared.decision.Decision.TheVariants.{Chosen, Impossible}
@@ -44,6 +45,10 @@ pub record Step (answer : Beam → Cage → ℕ) (got : Kind → ℕ → Bool) (
 abbrev pub StandsAgainst : ℕ → Decision → Type 0
 StandsAgainst floor (Chosen x) = x.steel < floor
 StandsAgainst floor (Impossible n) = ⊥
+
+-- a cage whose steel lies in the band
+abbrev pub InBand : Beam → Band → Cage → Type 0
+InBand beam band d = (band.from ≤ steel beam d) × (steel beam d < band.to)
 
 -- the place of a face's bars, and of ties, in the order of the search
 abbrev pub bars_place : Bars → ℕ
