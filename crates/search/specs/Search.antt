@@ -46,9 +46,9 @@ abbrev pub StandsAgainst : ℕ → Decision → Type 0
 StandsAgainst floor (Chosen x) = x.steel < floor
 StandsAgainst floor (Impossible n) = ⊥
 
--- a cage whose steel lies in the band
-abbrev pub InBand : Beam → Band → Cage → Type 0
-InBand beam band d = (band.from ≤ steel beam d) × (steel beam d < band.to)
+-- the cages from stock whose steel lies in a band
+abbrev pub InBand : (Kind → ℕ → Bool) → Beam → Band → Cage → Type 0
+InBand got beam band d = FromStock got d × (band.from ≤ steel beam d) × (steel beam d < band.to)
 
 -- the place of a face's bars, and of ties, in the order of the search
 abbrev pub bars_place : Bars → ℕ
@@ -64,11 +64,3 @@ IsByPlace {X} place xs n = (k : ℕ) (d : X) → k < n → place (slice_index_or
 -- the decision is right with regard to all cages of which P holds
 abbrev pub Done : (Beam → Cage → ℕ) → Beam → (Cage → Type 0) → Decision → Type 0
 Done answer beam P best = (d : Cage) → P d → Covers answer beam best d
-
--- the cages from stock with this bottom and this top
-abbrev pub OfPair : (Kind → ℕ → Bool) → Bars → Bars → Cage → Type 0
-OfPair got bottom top d = (d.bottom ≡ bottom) × (d.top ≡ top) × TieIn got d.ties
-
--- the cages from stock with this bottom
-abbrev pub OfBottom : (Kind → ℕ → Bool) → Bars → Cage → Type 0
-OfBottom got bottom d = (d.bottom ≡ bottom) × MainIn got d.top × TieIn got d.ties

@@ -1,22 +1,48 @@
 ghost use Rattle.std.specs.Prelude.{◌≡◌};
-ghost use Rattle.rebar.specs.Steel.{bars_steel};
+ghost use Rattle.rebar.specs.Steel.{bars_steel, ties_steel};
 ghost use Rattle.stock.specs.Stock.{has};
 ghost use Rattle.search.specs.declared.decision.Decision.{Decision};
 ghost use Rattle.search.specs.Lightest.{FromStock, Lightest};
-ghost use Rattle.search.specs.Search.{MainIn, Sound, Step, Done, InBand, OfPair, OfBottom};
+ghost use Rattle.search.specs.Search.{MainIn, Sound, Step, Done, InBand};
 
 use crate::band::{Band, HEAVIEST};
 use crate::decision::{Choice, Decision};
 use crate::searching::Search;
-use crate::weighed::WeighedBars;
+use crate::weighed::{WeighedBars, WeighedTies};
 use books::book::Book;
 use rebar::beam::Beam;
 use rebar::cage::Cage;
 use stock::stock::Stock;
 
 impl<P: Book> Search<'_, P> {
-    // The decision with the cages of one bottom and one top in a band; with no look at them where none lies in the band, or
-    // the lightest ties from stock would make too heavy a cage.
+    // The decision with the cage of these bars and ties, where it is from stock and in a band.
+    fn weigh_cage(
+        &self,
+        band: &Band,
+        bottom: &WeighedBars,
+        top: &WeighedBars,
+        ties: &WeighedTies,
+        best: Decision,
+    ) -> Decision
+        requires bars_in { MainIn (has self.now.stock.now) bottom.now.bars × MainIn (has self.now.stock.now) top.now.bars }
+        requires weighed { (bottom.now.steel ≡ bars_steel self.now.beam.now bottom.now.bars) × (top.now.steel ≡ bars_steel self.now.beam.now top.now.bars) × (ties.now.steel ≡ ties_steel self.now.beam.now ties.now.ties) }
+        ensures step { Step (P.answer self.now.pile.now) (has self.now.stock.now) self.now.beam.now best result }
+        ensures done { Done (P.answer self.now.pile.now) self.now.beam.now (λ d. InBand (has self.now.stock.now) self.now.beam.now band.now d × (d.bottom ≡ bottom.now.bars) × (d.top ≡ top.now.bars) × (d.ties ≡ ties.now.ties)) result }
+    {
+        let steel = bottom.steel + top.steel + ties.steel;
+        if !self.stock.has_ties(&ties.ties) || !band.holds(steel) {
+            return best;
+        }
+        let cage = Cage {
+            bottom: bottom.bars,
+            top: top.bars,
+            ties: ties.ties,
+        };
+        self.weigh(Choice { cage, steel }, best)
+    }
+
+    // The decision with the cages of one bottom and one top in a band; with no look at them where none is from stock and in the
+    // band, or the lightest ties would make too heavy a cage.
     fn weigh_ties(
         &self,
         band: &Band,
@@ -25,45 +51,38 @@ impl<P: Book> Search<'_, P> {
         best: Decision,
     ) -> Decision
         requires bottom_in { MainIn (has self.now.stock.now) bottom.now.bars }
-        requires top_in { MainIn (has self.now.stock.now) top.now.bars }
         requires weighed { (bottom.now.steel ≡ bars_steel self.now.beam.now bottom.now.bars) × (top.now.steel ≡ bars_steel self.now.beam.now top.now.bars) }
         ensures step { Step (P.answer self.now.pile.now) (has self.now.stock.now) self.now.beam.now best result }
-        ensures done { Done (P.answer self.now.pile.now) self.now.beam.now (λ d. OfPair (has self.now.stock.now) bottom.now.bars top.now.bars d × InBand self.now.beam.now band.now d) result }
+        ensures done { Done (P.answer self.now.pile.now) self.now.beam.now (λ d. InBand (has self.now.stock.now) self.now.beam.now band.now d × (d.bottom ≡ bottom.now.bars) × (d.top ≡ top.now.bars)) result }
     {
-        let main = bottom.steel + top.steel;
-        if !band.meets(main + self.least, main + self.most)
-            || best.stands_against(main + self.least)
+        let lightest = bottom.steel + top.steel + self.least;
+        let heaviest = bottom.steel + top.steel + self.most;
+        if !self.stock.has_bars(&top.bars)
+            || !band.meets(lightest, heaviest)
+            || best.stands_against(lightest)
         {
             return best;
         }
         let mut found = best;
-        for t in &self.ties {
-            let steel = main + t.steel;
-            if self.stock.has_ties(&t.ties) && band.holds(steel) {
-                let cage = Cage {
-                    bottom: bottom.bars,
-                    top: top.bars,
-                    ties: t.ties,
-                };
-                found = self.weigh(Choice { cage, steel }, found);
-            }
+        for ties in &self.ties {
+            found = self.weigh_cage(band, bottom, top, ties, found);
         }
         found
     }
 
-    // The decision with the cages of one bottom in a band. This loop and the two below are not one over a closure, since
+    // The decision with the cages of one bottom in a band. This loop and the ones beside it are not one over a closure, since
     // each says another thing of the cages that are covered.
     fn weigh_tops(&self, band: &Band, bottom: &WeighedBars, best: Decision) -> Decision
-        requires bottom_in { MainIn (has self.now.stock.now) bottom.now.bars }
-        requires weighed { bottom.now.steel ≡ bars_steel self.now.beam.now bottom.now.bars }
+        requires { bottom.now.steel ≡ bars_steel self.now.beam.now bottom.now.bars }
         ensures step { Step (P.answer self.now.pile.now) (has self.now.stock.now) self.now.beam.now best result }
-        ensures done { Done (P.answer self.now.pile.now) self.now.beam.now (λ d. OfBottom (has self.now.stock.now) bottom.now.bars d × InBand self.now.beam.now band.now d) result }
+        ensures done { Done (P.answer self.now.pile.now) self.now.beam.now (λ d. InBand (has self.now.stock.now) self.now.beam.now band.now d × (d.bottom ≡ bottom.now.bars)) result }
     {
+        if !self.stock.has_bars(&bottom.bars) || band.to <= bottom.steel {
+            return best;
+        }
         let mut found = best;
         for top in &self.bars {
-            if self.stock.has_bars(&top.bars) {
-                found = self.weigh_ties(band, bottom, top, found);
-            }
+            found = self.weigh_ties(band, bottom, top, found);
         }
         found
     }
@@ -71,13 +90,11 @@ impl<P: Book> Search<'_, P> {
     // The decision with the cages of a band.
     fn weigh_bottoms(&self, band: &Band, best: Decision) -> Decision
         ensures step { Step (P.answer self.now.pile.now) (has self.now.stock.now) self.now.beam.now best result }
-        ensures done { Done (P.answer self.now.pile.now) self.now.beam.now (λ d. FromStock (has self.now.stock.now) d × InBand self.now.beam.now band.now d) result }
+        ensures done { Done (P.answer self.now.pile.now) self.now.beam.now (InBand (has self.now.stock.now) self.now.beam.now band.now) result }
     {
         let mut found = best;
         for bottom in &self.bars {
-            if self.stock.has_bars(&bottom.bars) && bottom.steel < band.to {
-                found = self.weigh_tops(band, bottom, found);
-            }
+            found = self.weigh_tops(band, bottom, found);
         }
         found
     }
