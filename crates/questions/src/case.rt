@@ -35,4 +35,9 @@ impl Case {
         let beam = read_card(bytes.as_slice()).map_err(|_| anyhow!("the card is refused"))?;
         Ok(Case { beam, stock })
     }
+
+    // Whether every mark is in stock.
+    pub(crate) fn has_all_marks(&self) -> bool {
+        !self.stock.main.contains(&false) && !self.stock.tie.contains(&false)
+    }
 }

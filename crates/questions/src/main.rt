@@ -2,30 +2,26 @@
 // each line of standard input: the main marks in stock, the tie marks and the bytes of its card, all in hexadecimal.
 #![tactic(auto)]
 
+mod asked; // what a search asked
 mod case; // a beam and a stock from a line
 mod counted; // a book that counts its questions
 mod least; // the least questions for a decision
-mod report; // what is printed
+mod ratios; // questions over the least
 
+use crate::asked::Asked;
 use crate::case::Case;
-use crate::report::{Asked, print_spread};
+use crate::ratios::Ratios;
 use std::io::BufRead;
 
 fn main(rt: HostRuntime) -> anyhow::Result<()> {
     let heap = rt.alloc();
-    let mut chosen = Vec::new(heap);
-    let mut impossible = Vec::new(heap);
+    let mut ratios = Ratios::new(heap);
     for line in rt.lines(heap) {
         let case = Case::read(heap, line?.as_str())?;
         let asked = Asked::of(heap, &case)?;
         println!(rt; "{asked}")?;
-        if asked.is_chosen() {
-            chosen.push(asked.in_thousandths())?;
-        } else {
-            impossible.push(asked.in_thousandths())?;
-        }
+        ratios.add(&case, &asked)?;
     }
-    print_spread(&rt, "chosen", chosen)?;
-    print_spread(&rt, "impossible", impossible)?;
+    ratios.print(&rt)?;
     Ok(())
 }

@@ -7,7 +7,7 @@ use search::decision::Decision;
 use search::lightest::design;
 use std::alloc::{AllocError, Global};
 use std::cell::Cell;
-use std::{fmt, io};
+use std::fmt;
 
 // A decision, how many questions the search put, and the least that it must put.
 #[derive(Clone, Copy)]
@@ -61,23 +61,4 @@ impl fmt::Display for Asked {
         }
         write!(f, ": {} questions, least {}", self.questions, self.least)
     }
-}
-
-// Prints how many beams there were, and the median and the greatest of their questions over the least.
-pub(crate) fn print_spread(
-    rt: &impl Print,
-    what: &str,
-    mut thousandths: Vec<u64>,
-) -> io::Result<()> {
-    thousandths.sort_unstable();
-    let count = thousandths.len();
-    let median = thousandths.get(count / 2).copied().unwrap_or(0);
-    let worst = thousandths.last().copied().unwrap_or(0);
-    println!(rt;
-        "{count} {what}: median {}.{:03}, worst {}.{:03}",
-        median / 1000,
-        median % 1000,
-        worst / 1000,
-        worst % 1000
-    )
 }
