@@ -28,6 +28,7 @@ impl Book for Always {
 }
 
 // A book that one cage passes, and no other.
+#[derive(Clone, Copy)]
 struct Only(Cage);
 
 impl Book for Only {
