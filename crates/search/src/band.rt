@@ -16,7 +16,7 @@ pub(crate) struct Band {
 impl Band {
     // The band below the lightest cage of any beam.
     pub(crate) fn first() -> Band
-        ensures { result.from ≡ 0 }
+        ensures { (result.from ≡ 0) × (result.to ≡ 400000) }
     {
         Band {
             from: 0,
@@ -27,7 +27,7 @@ impl Band {
     // The band above, wider by a sixteenth.
     pub(crate) fn next(&self) -> Band
         requires { self.now.from < HEAVIEST }
-        ensures { result.from ≡ self.now.to }
+        ensures { (result.from ≡ self.now.to) × (result.to ≡ self.now.to + self.now.to / 16) }
     {
         Band {
             from: self.to,

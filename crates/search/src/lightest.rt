@@ -116,6 +116,7 @@ impl<P: Book> Search<'_, P> {
 
 // The lightest cage from stock that the pile passes for the beam, of equals the smallest; or where none passes, the
 // greatest number with which the pile refuses one.
+#[tactic(auto, using(crate::proofs::Loops::settled, crate::proofs::One::only_settled))]
 pub fn design<P: Book>(pile: &P, beam: &Beam, stock: &Stock) -> Decision
     ensures lightest_or_none { Lightest (P.answer pile.now) (has stock.now) beam.now result }
     ensures decision_is_the_only_one { (s : Decision) → Lightest (P.answer pile.now) (has stock.now) beam.now s → s ≡ result }
