@@ -11,7 +11,6 @@ mod ratios; // questions over the least
 use crate::asked::Asked;
 use crate::case::Case;
 use crate::ratios::Ratios;
-use std::io::BufRead;
 
 fn main(rt: HostRuntime) -> anyhow::Result<()> {
     let heap = rt.alloc();
