@@ -1,5 +1,5 @@
 -- One turn of each loop of the search, and its end.
-use Rattle.std.proofs.Common.{◌≡◌, ℕ, ◌+◌, ◌<◌, Bool, inl, inr, subst, arith}
+use Rattle.std.proofs.Common.{◌≡◌, ℕ, ◌+◌, ◌<◌, Bool, inl, inr, arith}
 use native.Mathlib.Decide.{dec_lt}
 use Rattle.rebar.specs.declared.beam.Beam.{Beam}
 use Rattle.rebar.specs.declared.cage.Cage.{Cage}
@@ -12,30 +12,19 @@ use Rattle.search.specs.Search.{Covers, Sound, Step, Done}
 -- a loop over the cages of which P holds, by the place of their part; at place k that part is t
 module _ {answer : Beam → Cage → ℕ} {got : Kind → ℕ → Bool} {beam : Beam} {X : Type 0}
     (place : X → ℕ) (part : Cage → X) (P : Cage → Type 0) {k : ℕ} {t : X} (here : (x : X) → place x ≡ k → x ≡ t) where
-  -- the turn went from old to result
-  pub took : {first old result new : Decision} → new ≡ result
-      → Step answer got beam first old → Step answer got beam old result
-      → ((d : Cage) → P d → part d ≡ t → Covers answer beam result d)
+  -- a turn
+  pub turned : {first old new : Decision} → Step answer got beam first old → Step answer got beam old new
+      → ((d : Cage) → P d → part d ≡ t → Covers answer beam new d)
       → Done answer beam (λ d. P d × (place (part d) < k)) old
       → Step answer got beam first new × Done answer beam (λ d. P d × (place (part d) < k + 1)) new
-  took is r s covers done =
-      rw is (
-        record { sound = λ x. s.sound (r.sound x); keeps = λ d x. s.keeps d (r.keeps d x) },
-        λ d p.
-            elim (dec_lt (place (part d)) k) [
-              | yes l ↦ s.keeps d (done d (p.0, l))
-              | no l ↦ covers d p.0 (here (part d) (omega (arith, p.1)))
-            ],
-      )
-
-  -- the part t is not in stock
-  pub passed : (In : X → Type 0) → {first old new : Decision} → new ≡ old
-      → Step answer got beam first old
-      → ((d : Cage) → P d → In (part d)) → (In t → ⊥)
-      → Done answer beam (λ d. P d × (place (part d) < k)) old
-      → Step answer got beam first new × Done answer beam (λ d. P d × (place (part d) < k + 1)) new
-  passed In is r in_stock out done =
-      took is r (record { sound = λ x. x; keeps = λ d x. x }) (λ d p e. absurd (out (subst In e (in_stock d p)))) done
+  turned r s covers done = (
+    record { sound = λ x. s.sound (r.sound x); keeps = λ d x. s.keeps d (r.keeps d x) },
+    λ d p.
+        elim (dec_lt (place (part d)) k) [
+          | yes l ↦ s.keeps d (done d (p.0, l))
+          | no l ↦ covers d p.0 (here (part d) (omega (arith, p.1)))
+        ],
+  )
 
 -- all places done
 pub settled : (answer : Beam → Cage → ℕ) (got : Kind → ℕ → Bool) (beam : Beam) (r : Decision) → Sound answer got beam r

@@ -9,7 +9,9 @@ use Rattle.stock.specs.declared.kind.Kind.{Kind}
 use Rattle.search.specs.declared.decision.Choice.{Choice}
 use Rattle.search.specs.declared.decision.Decision.{Decision}
 use Rattle.search.specs.declared.decision.Decision.TheVariants.{Chosen, Impossible}
-use Rattle.search.specs.Lightest.{Better, Lightest}
+use Rattle.search.specs.Lightest.{Better, FromStock, Lightest}
+use Rattle.search.specs.Search.{Sound, Done}
+use Rattle.search.proofs.Loops.{settled}
 use Rattle.rebar.proofs.Same.{same_bars, same_ties, same_cage}
 
 -- choices of the same cage and steel are the same
@@ -36,7 +38,7 @@ same beam c d h k =
     let l = level _ _ g.1 g.2 in
     same_cage c d (same_bars _ _ a.0 b.0) (same_bars _ _ e.0 f.0) (same_ties _ _ g.0 l.0)
 
-pub one_decision : (answer : Beam → Cage → ℕ) (got : Kind → ℕ → Bool) (beam : Beam) (r s : Decision)
+one_decision : (answer : Beam → Cage → ℕ) (got : Kind → ℕ → Bool) (beam : Beam) (r s : Decision)
     → Lightest answer got beam r
     → Lightest answer got beam s
     → r ≡ s
@@ -58,3 +60,8 @@ one_decision answer got beam (Impossible n) (Impossible m) p q =
     ] in
     let e : n ≡ m = omega arith in
     ap Impossible e
+
+-- all places done, no other decision is right
+pub only_settled : (answer : Beam → Cage → ℕ) (got : Kind → ℕ → Bool) (beam : Beam) (s r : Decision) → Sound answer got beam r
+    → Done answer beam (FromStock got) r → Lightest answer got beam s → s ≡ r
+only_settled answer got beam s r sound done right = one_decision answer got beam s r right (settled answer got beam r sound done)

@@ -1,18 +1,22 @@
 -- Bars and ties are known by their place in the list of all.
-use Rattle.std.proofs.Common.{◌≡◌, ℕ, ◌/◌, ◌<◌, ◌≤◌, Bool, List, get_or, ap, sym, subst, ◌∙◌, lit≤, refl, arith}
+use Rattle.std.proofs.Common.{◌≡◌, ℕ, ◌/◌, ◌<◌, ◌≤◌, List, get_or, sym, subst, ◌∙◌, lit≤, refl, arith}
 use Rattle.std.specs.List.{AllWithin}
 use Rattle.rebar.specs.declared.beam.Beam.{Beam}
 use Rattle.rebar.specs.declared.cage.Bars.{Bars}
 use Rattle.rebar.specs.declared.cage.Ties.{Ties}
-use Rattle.rebar.specs.Steel.{ties_steel}
+use Rattle.rebar.specs.Steel.{bars_steel, ties_steel}
 use Rattle.rebar.proofs.Same.{same_bars, same_ties}
-use Rattle.stock.specs.declared.kind.Kind.{Kind}
 use Rattle.search.specs.declared.places.TheConstants.{BARS, TIES}
-use Rattle.search.specs.declared.weighed_ties.WeighedTies.{WeighedTies}
-use Rattle.search.specs.Search.{TieIn, IsByPlace, bars_place, ties_place}
+use Rattle.search.specs.declared.weighed.WeighedBars.{WeighedBars}
+use Rattle.search.specs.declared.weighed.WeighedTies.{WeighedTies}
+use Rattle.search.specs.declared.weighed.TheConstants.{MOST}
+use Rattle.search.specs.Search.{IsByPlace, bars_place, ties_place}
 
--- every ties have a place
-pub ties_place_lt : (a : Ties) → ties_place a < TIES
+-- all bars and all ties have a place
+bars_place_lt : (a : Bars) → bars_place a < BARS
+bars_place_lt a = omega arith
+
+ties_place_lt : (a : Ties) → ties_place a < TIES
 ties_place_lt a = omega arith
 
 -- the bars at a place are the only ones, and so are the ties
@@ -25,24 +29,45 @@ same_ties_place a b e =
     let q : a.spacing / 25 ≡ b.spacing / 25 = omega arith in
     same_ties a b m (omega (arith, a.spaced.1, b.spaced.1))
 
--- the list of all has them there
-pub bars_here : (bars : List Bars) → IsByPlace bars_place bars BARS → (k : ℕ) (t : Bars) → k < BARS
-    → (b : Bars) → bars_place b ≡ k → b ≡ get_or bars k t
-bars_here bars all k t lt b e = same_bars_place b (get_or bars k t) (e ∙ sym (all k t lt))
+-- a list of weighed parts by place
+module _ {Part Weighed : Type 0} (part : Weighed → Part) (place : Part → ℕ) (n : ℕ)
+    (same : (a b : Part) → place a ≡ place b → a ≡ b) (xs : List Weighed) (all : IsByPlace (λ x. place (part x)) xs n) where
+  -- has at each place the only part with that place
+  listed : (k : ℕ) (x : Weighed) → k < n → (a : Part) → place a ≡ k → a ≡ part (get_or xs k x)
+  listed k x lt a e = same a (part (get_or xs k x)) (e ∙ sym (all k x lt))
+
+  -- what holds of the steel of each of the listed parts holds of the steel of each part
+  of_listed : (steel : Weighed → ℕ) (weight : Part → ℕ) → AllWithin (λ x. steel x ≡ weight (part x)) xs 0 n
+      → (Q : Part → ℕ → Type 0) → AllWithin (λ x. Q (part x) (steel x)) xs 0 n
+      → Weighed → (a : Part) → place a < n → Q a (weight a)
+  of_listed steel weight weighed Q holds x a lt =
+      let e = listed (place a) x lt a refl in
+      subst (λ p. Q p (weight p)) (sym e) (subst (Q (part (get_or xs (place a) x))) (weighed (place a) x (omega arith) lt) (holds (place a) x (omega arith) lt))
+
+module _ (bars : List WeighedBars) (all : IsByPlace (λ b. bars_place b.bars) bars BARS) where
+  pub bars_here : (k : ℕ) (t : WeighedBars) → k < BARS → (b : Bars) → bars_place b ≡ k → b ≡ (get_or bars k t).bars
+  bars_here = listed (λ b. b.bars) bars_place BARS same_bars_place bars all
+
+  -- no bars of a face have more steel
+  pub bars_below_most : (beam : Beam) → AllWithin (λ b. b.steel ≡ bars_steel beam b.bars) bars 0 BARS
+      → (b : Bars) → bars_steel beam b ≤ MOST
+  bars_below_most beam weighed b =
+      of_listed (λ b. b.bars) bars_place BARS same_bars_place bars all (λ b. b.steel) (bars_steel beam) weighed (λ _ s. s ≤ MOST)
+      (λ k d _ _. (get_or bars k d).bounded) (record { bars = b; steel = 0; bounded = lit≤ tt }) b (bars_place_lt b)
 
 module _ (ties : List WeighedTies) (all : IsByPlace (λ t. ties_place t.ties) ties TIES) where
   pub ties_here : (k : ℕ) (t : WeighedTies) → k < TIES → (b : Ties) → ties_place b ≡ k → b ≡ (get_or ties k t).ties
-  ties_here k t lt b e = same_ties_place b (get_or ties k t).ties (e ∙ sym (all k t lt))
+  ties_here = listed (λ t. t.ties) ties_place TIES same_ties_place ties all
 
-  -- what bounds the steel of the listed ties from stock bounds that of all ties from stock
-  pub bound_of_listed : (got : Kind → ℕ → Bool) (beam : Beam) (least : ℕ)
-      → AllWithin (λ t. t.steel ≡ ties_steel beam t.ties) ties 0 TIES
-      → AllWithin (λ t. TieIn got t.ties → least ≤ t.steel) ties 0 TIES
-      → (t : Ties) → TieIn got t → least ≤ ties_steel beam t
-  bound_of_listed got beam least weighed below t is_in =
-      let d : WeighedTies = record { ties = t; steel = 0; bounded = lit≤ tt } in
-      let k = ties_place t in
-      let lt = ties_place_lt t in
-      let e = ties_here k d lt t refl in
-      let h = below k d (omega arith) lt (subst (λ x. TieIn got x) e is_in) in
-      omega (arith, h, weighed k d (omega arith) lt, ap (ties_steel beam) e)
+  -- what holds of the steel of the listed ties holds of that of all ties
+  pub of_listed_ties : (beam : Beam) → AllWithin (λ t. t.steel ≡ ties_steel beam t.ties) ties 0 TIES
+      → (Q : Ties → ℕ → Type 0) → AllWithin (λ t. Q t.ties t.steel) ties 0 TIES
+      → (t : Ties) → Q t (ties_steel beam t)
+  of_listed_ties beam weighed Q holds t =
+      of_listed (λ t. t.ties) ties_place TIES same_ties_place ties all (λ t. t.steel) (ties_steel beam) weighed Q holds
+      (record { ties = t; steel = 0; bounded = lit≤ tt }) t (ties_place_lt t)
+
+  -- no ties have more steel
+  pub ties_below_most : (beam : Beam) → AllWithin (λ t. t.steel ≡ ties_steel beam t.ties) ties 0 TIES
+      → (t : Ties) → ties_steel beam t ≤ MOST
+  ties_below_most beam weighed = of_listed_ties beam weighed (λ _ s. s ≤ MOST) (λ k d _ _. (get_or ties k d).bounded)

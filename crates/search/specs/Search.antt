@@ -9,6 +9,7 @@ use Rattle.rebar.specs.Steel.{steel}
 use Rattle.books.specs.Answers.{Passes}
 use Rattle.stock.specs.declared.kind.Kind.{Kind}
 use Rattle.stock.specs.declared.kind.Kind.TheVariants.{Main, Tie}
+use Rattle.search.specs.declared.band.Band.{Band}
 use Rattle.search.specs.declared.decision.Choice.{Choice}
 use Rattle.search.specs.declared.decision.Decision.{Decision}
 use Rattle.search.specs.declared.decision.Decision.TheVariants.{Chosen, Impossible}
@@ -45,6 +46,10 @@ abbrev pub StandsAgainst : ℕ → Decision → Type 0
 StandsAgainst floor (Chosen x) = x.steel < floor
 StandsAgainst floor (Impossible n) = ⊥
 
+-- the cages from stock whose steel lies in a band
+abbrev pub InBand : (Kind → ℕ → Bool) → Beam → Band → Cage → Type 0
+InBand got beam band d = FromStock got d × (band.from ≤ steel beam d) × (steel beam d < band.to)
+
 -- the place of a face's bars, and of ties, in the order of the search
 abbrev pub bars_place : Bars → ℕ
 bars_place bars = (bars.mark - 3) * 11 + (bars.number - 2)
@@ -59,11 +64,3 @@ IsByPlace {X} place xs n = (k : ℕ) (d : X) → k < n → place (slice_index_or
 -- the decision is right with regard to all cages of which P holds
 abbrev pub Done : (Beam → Cage → ℕ) → Beam → (Cage → Type 0) → Decision → Type 0
 Done answer beam P best = (d : Cage) → P d → Covers answer beam best d
-
--- the cages from stock with this bottom and this top
-abbrev pub OfPair : (Kind → ℕ → Bool) → Bars → Bars → Cage → Type 0
-OfPair got bottom top d = (d.bottom ≡ bottom) × (d.top ≡ top) × TieIn got d.ties
-
--- the cages from stock with this bottom
-abbrev pub OfBottom : (Kind → ℕ → Bool) → Bars → Cage → Type 0
-OfBottom got bottom d = (d.bottom ≡ bottom) × MainIn got d.top × TieIn got d.ties

@@ -1,9 +1,10 @@
 // The search for the lightest cage from stock that an article book passes.
 #![tactic(auto)]
 
+mod band; // a band of steel
 pub mod decision; // a chosen cage with its steel, or the number of an impossible beam
 pub mod lightest; // the lightest cage from stock that passes
 mod places; // all bars of a face and all ties, in the order of the search
 mod searching; // what a search asks, and what it knows before its first question
-mod weighed_ties; // ties with their steel in a beam
+mod weighed; // bars of a face and ties with their steel in a beam
 mod weighing; // one cage more to a decision

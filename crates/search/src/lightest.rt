@@ -1,84 +1,114 @@
 ghost use Rattle.std.specs.Prelude.{◌≡◌};
+ghost use Rattle.rebar.specs.Steel.{bars_steel, ties_steel};
 ghost use Rattle.stock.specs.Stock.{has};
 ghost use Rattle.search.specs.declared.decision.Decision.{Decision};
 ghost use Rattle.search.specs.Lightest.{FromStock, Lightest};
-ghost use Rattle.search.specs.Search.{MainIn, Step, Done, OfPair, OfBottom};
+ghost use Rattle.search.specs.Search.{MainIn, Sound, Step, Done, InBand};
 
+use crate::band::{Band, HEAVIEST};
 use crate::decision::{Choice, Decision};
 use crate::searching::Search;
+use crate::weighed::{WeighedBars, WeighedTies};
 use books::book::Book;
 use rebar::beam::Beam;
-use rebar::cage::{Bars, Cage};
+use rebar::cage::Cage;
 use stock::stock::Stock;
 
 impl<P: Book> Search<'_, P> {
-    // The decision with the cages of one bottom and one top; with no look at them where the lightest ties from stock
-    // would make too heavy a cage.
-    fn weigh_ties(&self, bottom: &Bars, top: &Bars, best: Decision) -> Decision
-        requires bottom_in { MainIn (has self.now.stock.now) bottom.now }
-        requires top_in { MainIn (has self.now.stock.now) top.now }
+    // The decision with the cage of these bars and ties, where it is from stock and in a band.
+    fn weigh_cage(
+        &self,
+        band: &Band,
+        bottom: &WeighedBars,
+        top: &WeighedBars,
+        ties: &WeighedTies,
+        best: Decision,
+    ) -> Decision
+        requires bars_in { MainIn (has self.now.stock.now) bottom.now.bars × MainIn (has self.now.stock.now) top.now.bars }
+        requires weighed { (bottom.now.steel ≡ bars_steel self.now.beam.now bottom.now.bars) × (top.now.steel ≡ bars_steel self.now.beam.now top.now.bars) × (ties.now.steel ≡ ties_steel self.now.beam.now ties.now.ties) }
         ensures step { Step (P.answer self.now.pile.now) (has self.now.stock.now) self.now.beam.now best result }
-        ensures done { Done (P.answer self.now.pile.now) self.now.beam.now (OfPair (has self.now.stock.now) bottom.now top.now) result }
+        ensures done { Done (P.answer self.now.pile.now) self.now.beam.now (λ d. InBand (has self.now.stock.now) self.now.beam.now band.now d × (d.bottom ≡ bottom.now.bars) × (d.top ≡ top.now.bars) × (d.ties ≡ ties.now.ties)) result }
     {
-        let main = self.beam.bars_steel(bottom) + self.beam.bars_steel(top);
-        if best.stands_against(main + self.least) {
+        let steel = bottom.steel + top.steel + ties.steel;
+        if !self.stock.has_ties(&ties.ties) || !band.holds(steel) {
+            return best;
+        }
+        let cage = Cage {
+            bottom: bottom.bars,
+            top: top.bars,
+            ties: ties.ties,
+        };
+        self.weigh(Choice { cage, steel }, best)
+    }
+
+    // The decision with the cages of one bottom and one top in a band; with no look at them where none is from stock and in the
+    // band, or the lightest ties would make too heavy a cage.
+    fn weigh_ties(
+        &self,
+        band: &Band,
+        bottom: &WeighedBars,
+        top: &WeighedBars,
+        best: Decision,
+    ) -> Decision
+        requires bottom_in { MainIn (has self.now.stock.now) bottom.now.bars }
+        requires weighed { (bottom.now.steel ≡ bars_steel self.now.beam.now bottom.now.bars) × (top.now.steel ≡ bars_steel self.now.beam.now top.now.bars) }
+        ensures step { Step (P.answer self.now.pile.now) (has self.now.stock.now) self.now.beam.now best result }
+        ensures done { Done (P.answer self.now.pile.now) self.now.beam.now (λ d. InBand (has self.now.stock.now) self.now.beam.now band.now d × (d.bottom ≡ bottom.now.bars) × (d.top ≡ top.now.bars)) result }
+    {
+        let lightest = bottom.steel + top.steel + self.least;
+        let heaviest = bottom.steel + top.steel + self.most;
+        if !self.stock.has_bars(&top.bars)
+            || !band.meets(lightest, heaviest)
+            || best.stands_against(lightest)
+        {
             return best;
         }
         let mut found = best;
-        for t in &self.ties {
-            if self.stock.has_ties(&t.ties) {
-                let cage = Cage {
-                    bottom: *bottom,
-                    top: *top,
-                    ties: t.ties,
-                };
-                let steel = main + t.steel;
-                found = self.weigh(Choice { cage, steel }, found);
-            }
+        for ties in &self.ties {
+            found = self.weigh_cage(band, bottom, top, ties, found);
         }
         found
     }
 
-    // The decision with the cages of one bottom. This loop and the two below are not one over a closure, since each
-    // says another thing of the cages that are covered.
-    fn weigh_tops(&self, bottom: &Bars, best: Decision) -> Decision
-        requires { MainIn (has self.now.stock.now) bottom.now }
+    // The decision with the cages of one bottom in a band. This loop and the ones beside it are not one over a closure, since
+    // each says another thing of the cages that are covered.
+    fn weigh_tops(&self, band: &Band, bottom: &WeighedBars, best: Decision) -> Decision
+        requires { bottom.now.steel ≡ bars_steel self.now.beam.now bottom.now.bars }
         ensures step { Step (P.answer self.now.pile.now) (has self.now.stock.now) self.now.beam.now best result }
-        ensures done { Done (P.answer self.now.pile.now) self.now.beam.now (OfBottom (has self.now.stock.now) bottom.now) result }
+        ensures done { Done (P.answer self.now.pile.now) self.now.beam.now (λ d. InBand (has self.now.stock.now) self.now.beam.now band.now d × (d.bottom ≡ bottom.now.bars)) result }
     {
+        if !self.stock.has_bars(&bottom.bars) || band.to <= bottom.steel {
+            return best;
+        }
         let mut found = best;
         for top in &self.bars {
-            if self.stock.has_bars(top) {
-                found = self.weigh_ties(bottom, top, found);
-            }
+            found = self.weigh_ties(band, bottom, top, found);
         }
         found
     }
 
-    // The decision with the cages whose bottom and top are equal: a first guess, after which most other cages are too
-    // heavy to be looked at.
-    fn weigh_twins(&self, best: Decision) -> Decision
-        ensures { Step (P.answer self.now.pile.now) (has self.now.stock.now) self.now.beam.now best result }
-    {
-        let mut found = best;
-        for bars in &self.bars {
-            if self.stock.has_bars(bars) {
-                found = self.weigh_ties(bars, bars, found);
-            }
-        }
-        found
-    }
-
-    // The decision with all cages.
-    fn weigh_bottoms(&self, best: Decision) -> Decision
+    // The decision with the cages of a band.
+    fn weigh_bottoms(&self, band: &Band, best: Decision) -> Decision
         ensures step { Step (P.answer self.now.pile.now) (has self.now.stock.now) self.now.beam.now best result }
-        ensures done { Done (P.answer self.now.pile.now) self.now.beam.now (FromStock (has self.now.stock.now)) result }
+        ensures done { Done (P.answer self.now.pile.now) self.now.beam.now (InBand (has self.now.stock.now) self.now.beam.now band.now) result }
     {
         let mut found = best;
         for bottom in &self.bars {
-            if self.stock.has_bars(bottom) {
-                found = self.weigh_tops(bottom, found);
-            }
+            found = self.weigh_tops(band, bottom, found);
+        }
+        found
+    }
+
+    // The decision with all cages: from the lightest band up, as long as no lighter cage has passed.
+    fn weigh_bands(&self) -> Decision
+        ensures sound { Sound (P.answer self.now.pile.now) (has self.now.stock.now) self.now.beam.now result }
+        ensures done { Done (P.answer self.now.pile.now) self.now.beam.now (FromStock (has self.now.stock.now)) result }
+    {
+        let mut found = Decision::Impossible(0);
+        let mut band = Band::first();
+        while band.from < HEAVIEST && !found.stands_against(band.from) {
+            found = self.weigh_bottoms(&band, found);
+            band = band.next();
         }
         found
     }
@@ -86,11 +116,10 @@ impl<P: Book> Search<'_, P> {
 
 // The lightest cage from stock that the pile passes for the beam, of equals the smallest; or where none passes, the
 // greatest number with which the pile refuses one.
+#[tactic(auto, using(crate::proofs::Loops::settled, crate::proofs::One::only_settled))]
 pub fn design<P: Book>(pile: &P, beam: &Beam, stock: &Stock) -> Decision
     ensures lightest_or_none { Lightest (P.answer pile.now) (has stock.now) beam.now result }
     ensures decision_is_the_only_one { (s : Decision) → Lightest (P.answer pile.now) (has stock.now) beam.now s → s ≡ result }
 {
-    let search = Search::new(pile, beam, stock);
-    let guess = search.weigh_twins(Decision::Impossible(0));
-    search.weigh_bottoms(guess)
+    Search::new(pile, beam, stock).weigh_bands()
 }

@@ -1,9 +1,9 @@
 ghost use Rattle.std.specs.Prelude.{◌≡◌, ◌<◌};
 ghost use Rattle.std.specs.List.{AllWithin};
-ghost use Rattle.rebar.specs.Steel.{ties_steel};
+ghost use Rattle.rebar.specs.Steel.{bars_steel, ties_steel};
 ghost use Rattle.search.specs.Search.{bars_place, ties_place, IsByPlace};
 
-use crate::weighed_ties::WeighedTies;
+use crate::weighed::{WeighedBars, WeighedTies};
 use rebar::beam::Beam;
 use rebar::cage::{Bars, Ties};
 use std::array;
@@ -14,15 +14,18 @@ pub(crate) const BARS: usize = 99;
 // How many ties there are: three marks, each at 23 spacings.
 pub(crate) const TIES: usize = 69;
 
-// The bars of a face at a place, by mark and then by number.
-fn bars_at(k: usize) -> Bars
+// The bars of a face at a place, by mark and then by number, with their steel in a beam.
+fn bars_at(beam: &Beam, k: usize) -> WeighedBars
     requires { k < BARS }
-    ensures { bars_place result ≡ k }
+    ensures at_place { bars_place result.bars ≡ k }
+    ensures weighed { result.steel ≡ bars_steel beam.now result.bars }
 {
-    Bars {
+    let bars = Bars {
         mark: 3 + (k / 11) as u8,
         number: 2 + (k % 11) as u8,
-    }
+    };
+    let steel = beam.bars_steel(&bars);
+    WeighedBars { bars, steel }
 }
 
 // The ties at a place, by mark and then by spacing, with their steel in a beam.
@@ -39,11 +42,12 @@ fn ties_at(beam: &Beam, k: usize) -> WeighedTies
     WeighedTies { ties, steel }
 }
 
-// All bars of a face, in the order of their places.
-pub(crate) fn all_bars() -> [Bars; BARS]
-    ensures { IsByPlace bars_place result BARS }
+// All bars of a face with their steel in a beam, in the order of their places.
+pub(crate) fn all_bars(beam: &Beam) -> [WeighedBars; BARS]
+    ensures by_place { IsByPlace (λ b. bars_place b.bars) result BARS }
+    ensures weighed { AllWithin (λ b. b.steel ≡ bars_steel beam.now b.bars) result 0 BARS }
 {
-    array::from_fn(bars_at)
+    array::from_fn(|k| bars_at(beam, k))
 }
 
 // All ties with their steel in a beam, in the order of their places.

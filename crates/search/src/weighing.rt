@@ -31,6 +31,7 @@ impl Decision {
 
 impl<P: Book> Search<'_, P> {
     // The decision with one more cage.
+    #[tactic(auto, using(crate::proofs::Steps::replaced, crate::proofs::Steps::refused))]
     pub(crate) fn weigh(&self, choice: Choice, best: Decision) -> Decision
         requires from_stock { FromStock (has self.now.stock.now) choice.cage }
         requires weighed { choice.steel ≡ steel self.now.beam.now choice.cage }

@@ -1,7 +1,14 @@
+ghost use Rattle.std.specs.Prelude.{cond, nat_eq};
+ghost use Rattle.std.specs.Ordering.{on};
+ghost use Rattle.std.specs.Cmp.Lexicographic.{pointwise};
+ghost use Rattle.rebar.specs.Order.{numbers};
+
 use crate::reference::beam;
 use books::book::Book;
+use books::frame::Frame;
+use books::general::General;
 use rebar::beam::Beam;
-use rebar::cage::Cage;
+use rebar::cage::{Bars, Cage, Ties};
 use search::decision::Decision;
 use search::lightest::design;
 use std::process::Abort;
@@ -20,9 +27,29 @@ impl Book for Always {
     }
 }
 
+// A book that one cage passes, and no other.
+#[derive(Clone, Copy)]
+struct Only(Cage);
+
+impl Book for Only {
+    ghost answer = { λ book beam cage. cond (on numbers (pointwise nat_eq) book.0 cage) 0 1 };
+
+    fn check(&self, _beam: &Beam, cage: &Cage) -> u8 {
+        if self.0.is_same(cage) { 0 } else { 1 }
+    }
+}
+
 // The mark of a kind, 0 for main bars and 1 for ties.
 fn known(kind: u8, mark: u8) -> Result<StockMark, Fail> {
     StockMark::new(kind, mark).ok_or_else(|| Fail::new("there is no such mark"))
+}
+
+// One main mark and one tie mark.
+fn stock_of(main: u8, tie: u8) -> Result<Stock, Fail> {
+    let mut stock = Stock::empty();
+    stock.set(&known(0, main)?, true);
+    stock.set(&known(1, tie)?, true);
+    Ok(stock)
 }
 
 // Main mark 5 and tie mark 3.
@@ -55,6 +82,46 @@ fn greatest_refusal(rt: HostRuntime) -> Result<(), Fail> {
         return Err(Fail::new("no cage passes"));
     };
     assert_eq!(rt; number, 255);
+    Ok(())
+}
+
+#[test]
+fn cage_at_the_end_of_the_ranges(rt: HostRuntime) -> Result<(), Fail> {
+    let bars = Bars::new(11, 12).ok_or_else(|| Fail::new("there are no such bars"))?;
+    let ties = Ties::new(5, 600).ok_or_else(|| Fail::new("there are no such ties"))?;
+    let last = Cage {
+        bottom: bars,
+        top: bars,
+        ties,
+    };
+    let found = design(&Only(last), &beam(false)?, &stock_of(11, 5)?);
+    let Decision::Chosen(choice) = found else {
+        return Err(Fail::new("the last cage passes"));
+    };
+    assert_eq!(rt; choice.cage.numbers(), [11, 12, 11, 12, 5, 600]);
+    assert_eq!(rt; choice.steel, 123_649_280);
+    Ok(())
+}
+
+#[test]
+fn heavier_ties(rt: HostRuntime) -> Result<(), Fail> {
+    let found = design(&General, &beam(false)?, &stock_of(5, 4)?);
+    let Decision::Chosen(choice) = found else {
+        return Err(Fail::new("some cage passes"));
+    };
+    assert_eq!(rt; choice.cage.numbers(), [5, 3, 5, 4, 4, 100]);
+    assert_eq!(rt; choice.steel, 16_214_300);
+    Ok(())
+}
+
+#[test]
+fn bars_too_thick(rt: HostRuntime) -> Result<(), Fail> {
+    let pile = Frame { below: General };
+    let found = design(&pile, &beam(true)?, &stock_of(11, 3)?);
+    let Decision::Impossible(number) = found else {
+        return Err(Fail::new("no cage passes"));
+    };
+    assert_eq!(rt; number, 4);
     Ok(())
 }
 

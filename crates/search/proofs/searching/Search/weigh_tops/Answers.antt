@@ -1,21 +1,14 @@
-use Rattle.std.proofs.Common.{arith, rules}
+use Rattle.std.proofs.Common.{◌≡◌, arith}
 use Rattle.stock.specs.Stock.{has}
-use Rattle.search.specs.Search.{MainIn, OfBottom, bars_place}
-use Rattle.search.proofs.Loops.{took, passed}
+use Rattle.search.specs.Search.{InBand, bars_place}
+use Rattle.search.proofs.Loops.{turned}
 use Rattle.search.proofs.PlaceLemmas.{bars_here}
 use Rattle.search.proofs.searching.Search.weigh_tops.Goals as goal
-use Rattle.search.proofs.searching.Search.weigh_tops.Goals.{then-has_bars, else-has_bars}
 
 pub loop-top-preserved : goal.loop-top-preserved
 loop-top-preserved g c =
     let asked = c.args.self.now in
-    let got = has asked.stock.now in
-    let here = bars_here asked.bars asked.every_bars c.loop-top.top-index c.top-item.result (omega arith) in
-    elim c.if-has_bars.branch [
-      | then-has_bars w ↦
-          took bars_place (λ d. d.top) (OfBottom got c.args.bottom.now) here w.found-is c.loop-top.invariant.0 w.weigh_ties-found.ensures.step
-          (λ d p e. w.weigh_ties-found.ensures.done d (p.0, e, p.2)) c.loop-top.invariant.1
-      | else-has_bars w ↦
-          passed bars_place (λ d. d.top) (OfBottom got c.args.bottom.now) here (MainIn got) w.found-is c.loop-top.invariant.0 (λ d p. p.1)
-          (search rules) c.loop-top.invariant.1
-    ]
+    let inner = c.weigh_ties-found.ensures in
+    turned bars_place (λ d. d.top) (λ d. InBand (has asked.stock.now) asked.beam.now c.args.band.now d × (d.bottom ≡ c.args.bottom.now.bars))
+    (bars_here asked.bars asked.every_bars c.loop-top.top-index c.top-item.result (omega arith)) c.loop-top.invariant.0
+    inner.step (λ d p e. inner.done d (p.0, p.1, e)) c.loop-top.invariant.1

@@ -1,0 +1,20 @@
+use books::book::Book;
+use rebar::beam::Beam;
+use rebar::cage::Cage;
+use std::cell::Cell;
+
+// A layer that answers as the book below it, and counts the questions.
+#[derive(Drop)]
+pub(crate) struct Counted<B> {
+    pub(crate) below: B,
+    pub(crate) questions: Cell<u64>,
+}
+
+impl<B: Book> Book for Counted<B> {
+    ghost answer = { λ counted beam cage. B.Book.answer counted.below beam cage };
+
+    fn check(&self, beam: &Beam, cage: &Cage) -> u8 {
+        self.questions.set(self.questions.get().saturating_add(1));
+        self.below.check(beam, cage)
+    }
+}
