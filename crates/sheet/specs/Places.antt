@@ -10,11 +10,7 @@ use Rattle.sheet.specs.declared.entry.Entry.{Entry}
 use Rattle.sheet.specs.declared.reading.Shown.{Shown}
 use Rattle.sheet.specs.declared.reading.Shown.TheVariants as shown
 
--- a place holds nothing, or a beam that is open or decided
-abbrev pub is_empty : Option Entry → Bool
-is_empty None = true
-is_empty (Some e) = false
-
+-- the beam at a place
 abbrev pub beam_of : Option Entry → Option Beam
 beam_of None = None
 beam_of (Some e) = Some e.beam

@@ -1,6 +1,7 @@
 // The sheet: 64 places for beams, the stock of marks, and the calls that change them.
 #![tactic(auto)]
 
+pub mod call; // the calls of a sheet, and what they answer
 mod change; // a mark that comes in or goes out
 mod entry; // a beam on the sheet with its decision
 mod place; // the places, by number

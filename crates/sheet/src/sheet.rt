@@ -1,14 +1,13 @@
 ghost use Rattle.std.specs.Prelude.{◌≡◌};
-ghost use Rattle.sheet.specs.Calls.{New, Enters, Stocks, Designs, Reads};
+ghost use Rattle.sheet.specs.Calls.{New, Makes, Reads, refusal};
+ghost use Rattle.sheet.specs.declared.call.Call.TheVariants as call;
 
 use crate::change::Change;
-use crate::entry::Entry;
 use crate::place::Place;
 use crate::reading::{Reading, Shown};
 use crate::refusal::Refusal;
 use crate::table::Table;
 use books::book::Book;
-use card::reader::read_card;
 use search::lightest::design;
 use stock::stock::Stock;
 use stock::stock_mark::StockMark;
@@ -37,23 +36,47 @@ impl<P: Book> Sheet<P> {
     }
 
     // Enters the beam of a card at an empty place.
+    #[tactic(auto, using(crate::proofs::Takes::entered))]
     pub fn enter(&mut self, place: u8, card: &[u8]) -> Result<(), Refusal>
         ensures keeps_the_pile { self.new.pile ≡ self.old.pile }
-        ensures beam_open_or_nothing_changed { Enters place card.now self.old.table result self.new.table }
+        ensures beam_open_or_nothing_changed { Makes (P.Book.answer self.old.pile) self.old.table (call.Enter place card.entry) (refusal result) self.new.table }
     {
         let place = Place::try_from(place)?;
         if self.table.at(place).is_some() {
             return Err(Refusal::PlaceTaken);
         }
-        let beam = read_card(card)?;
-        self.table.put(place, Entry::open(beam));
+        self.table.take(place, card)
+    }
+
+    // Puts the beam of another card in the place of a beam.
+    #[tactic(auto, using(crate::proofs::Takes::corrected))]
+    pub(crate) fn correct(&mut self, place: u8, card: &[u8]) -> Result<(), Refusal>
+        ensures keeps_the_pile { self.new.pile ≡ self.old.pile }
+        ensures beam_replaced_and_open_or_nothing_changed { Makes (P.Book.answer self.old.pile) self.old.table (call.Correct place card.entry) (refusal result) self.new.table }
+    {
+        let place = Place::try_from(place)?;
+        if self.table.at(place).is_none() {
+            return Err(Refusal::PlaceEmpty);
+        }
+        self.table.take(place, card)
+    }
+
+    // Takes the beam away from a place.
+    pub(crate) fn strike(&mut self, place: u8) -> Result<(), Refusal>
+        ensures keeps_the_pile { self.new.pile ≡ self.old.pile }
+        ensures place_empty_or_nothing_changed { Makes (P.Book.answer self.old.pile) self.old.table (call.Strike place) (refusal result) self.new.table }
+    {
+        let place = Place::try_from(place)?;
+        self.table.at(place).ok_or(Refusal::PlaceEmpty)?;
+        self.table.put(place, None);
         Ok(())
     }
 
     // Sets a mark of a kind, 0 for main bars and 1 for ties, in or out of stock. Any byte may come as a kind.
+    #[tactic(auto, using(crate::proofs::Marks::unknown))]
     pub fn stock(&mut self, kind: u8, mark: u8, is_in: bool) -> Result<(), Refusal>
         ensures keeps_the_pile { self.new.pile ≡ self.old.pile }
-        ensures mark_set_or_nothing_changed { Stocks kind mark is_in self.old.table result self.new.table }
+        ensures mark_set_or_nothing_changed { Makes (P.Book.answer self.old.pile) self.old.table (call.Stock kind mark is_in) (refusal result) self.new.table }
     {
         let item = StockMark::new(kind, mark).ok_or(Refusal::NoSuchMark)?;
         self.table.restock(&Change { item, is_in });
@@ -63,7 +86,7 @@ impl<P: Book> Sheet<P> {
     // Designs the beam at a place.
     pub fn design(&mut self, place: u8) -> Result<(), Refusal>
         ensures keeps_the_pile { self.new.pile ≡ self.old.pile }
-        ensures lightest_stored_or_nothing_changed { Designs (P.Book.answer self.old.pile) place self.old.table result self.new.table }
+        ensures lightest_stored_or_nothing_changed { Makes (P.Book.answer self.old.pile) self.old.table (call.Design place) (refusal result) self.new.table }
     {
         let place = Place::try_from(place)?;
         let entry = self.table.at(place).ok_or(Refusal::PlaceEmpty)?;
