@@ -1,2 +1,4 @@
 pub mod Marks
 pub mod Takes
+pub mod StockAfter
+pub mod Kept

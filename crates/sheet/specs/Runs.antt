@@ -1,0 +1,20 @@
+-- The tables that lists of calls lead to. A reader of the law needs none of this: opening a sheet gives a run, each call takes
+-- it on, and reading concludes without it.
+use Rattle.std.specs.Prelude.{◌≡◌, ℕ, List, [], ◌∷◌, Option}
+use Rattle.rebar.specs.declared.beam.Beam.{Beam}
+use Rattle.rebar.specs.declared.cage.Cage.{Cage}
+use Rattle.sheet.specs.declared.call.Call.{Call}
+use Rattle.sheet.specs.declared.refusal.Refusal.{Refusal}
+use Rattle.sheet.specs.declared.table.Table.{Table}
+use Rattle.sheet.specs.Calls.{New, Makes}
+use Rattle.sheet.specs.History.{why_after}
+
+-- the calls, the newest first, have led to a table
+pub data Run (pile : Beam → Cage → ℕ) : List Call → Table → Type 0 where
+  opened : {t : Table} → New t → Run pile [] t
+  made : {calls : List Call} {t t' : Table} (call : Call) (e : Option Refusal)
+      → Run pile calls t → Makes pile t call e t' → Run pile (call ∷ calls) t'
+
+-- every history that led to a table is led on by a call, whose refusal is the one that the calls before it determine
+abbrev pub Grows : (Beam → Cage → ℕ) → Table → Call → Option Refusal → Table → Type 0
+Grows pile t call e t' = (calls : List Call) → Run pile calls t → Run pile (call ∷ calls) t' × (why_after calls call ≡ e)
