@@ -86,17 +86,17 @@ mapped f e [] q = sym e
 mapped f e (x ∷ xs) zero = refl
 mapped f e (x ∷ xs) (suc q) = mapped f e xs q
 
-all_alike : {A : Type 0} (a : A) (n q : ℕ) → slice_index_or (replicate n a) q a ≡ a
+pub all_alike : {A : Type 0} (a : A) (n q : ℕ) → slice_index_or (replicate n a) q a ≡ a
 all_alike a zero q = refl
 all_alike a (suc n) zero = refl
 all_alike a (suc n) (suc q) = all_alike a n q
 
 -- what was decided is decided, but at the place that is written
-unless : (b d : Bool) (x y : Option Entry) → (d ≡ true → is_decided y ≡ true) → (not b && d) ≡ true → is_decided (cond b x y) ≡ true
+pub unless : (b d : Bool) (x y : Option Entry) → (d ≡ true → is_decided y ≡ true) → (not b && d) ≡ true → is_decided (cond b x y) ≡ true
 unless true d x y h e = absurd (false≢true e)
 unless false d x y h e = h e
 
-also : (b d : Bool) (x y : Option Entry) → is_decided x ≡ true → (d ≡ true → is_decided y ≡ true) → (b || d) ≡ true → is_decided (cond b x y) ≡ true
+pub also : (b d : Bool) (x y : Option Entry) → is_decided x ≡ true → (d ≡ true → is_decided y ≡ true) → (b || d) ≡ true → is_decided (cond b x y) ≡ true
 also true d x y i h e = i
 also false d x y i h e = h e
 
@@ -116,14 +116,14 @@ module _ (P : List ℕ → Beam → Type 0) where
   taken None (Some e) h = absurd h
   taken (Some card) None h = absurd h
 
-  both : (b : Bool) (c d : Option (List ℕ)) (x y : Option Entry) → HoldsBy P c x → HoldsBy P d y → HoldsBy P (cond b c d) (cond b x y)
+  pub both : (b : Bool) (c d : Option (List ℕ)) (x y : Option Entry) → HoldsBy P c x → HoldsBy P d y → HoldsBy P (cond b c d) (cond b x y)
   both true c d x y h k = h
   both false c d x y h k = k
 
   same_beam : (card : List ℕ) (x b : Beam) → Some x ≡ Some b → P card x → P card b
   same_beam card x b e h = let same : x ≡ b = cc in subst (P card) same h
 
-  swapped : (c : Option (List ℕ)) (held : Option Entry) (b : Beam) (d : Decision) → HoldsBy P c held → beam_of held ≡ Some b
+  pub swapped : (c : Option (List ℕ)) (held : Option Entry) (b : Beam) (d : Decision) → HoldsBy P c held → beam_of held ≡ Some b
       → HoldsBy P c (Some (decided b d))
   swapped None None b d h e = none_some b e
   swapped (Some card) (Some x) b d h e = same_beam card x.beam b e h
@@ -168,7 +168,7 @@ ties_after s Tie m b l = length-set s.tie (m - 3) b ∙ l
 module _ {pile : Beam → Cage → ℕ} {cards : ℕ → Option (List ℕ)} {got : Kind → ℕ → Bool} {done : ℕ → Bool} {designs : ℕ} {t : Table}
     (k : KeptBy pile cards got done designs t) where
   -- the table with one place written
-  written : (p : ℕ) → p ≤ 63 → (x : Option Entry) → Right pile (has t.stock) x
+  pub written : (p : ℕ) → p ≤ 63 → (x : Option Entry) → Right pile (has t.stock) x
       → (cards' : ℕ → Option (List ℕ)) → ((q : ℕ) → Holds (cards' q) (cond (p == q) x (place_at t q)))
       → (done' : ℕ → Bool) → ((q : ℕ) → done' q ≡ true → is_decided (cond (p == q) x (place_at t q)) ≡ true)
       → (n count : ℕ) → count ≡ min n 4294967295
@@ -187,7 +187,7 @@ module _ {pile : Beam → Cage → ℕ} {cards : ℕ → Option (List ℕ)} {got
       }
 
   -- the table with a mark set, where `same` says whether it was set so before
-  restocked_kept : (j : Kind) (m : ℕ) (b : Bool) → known j m ≡ true → (same : Bool) → (same ≡ true → beq (has t.stock j m) b ≡ true)
+  pub restocked_kept : (j : Kind) (m : ℕ) (b : Bool) → known j m ≡ true → (same : Bool) → (same ≡ true → beq (has t.stock j m) b ≡ true)
       → KeptBy pile cards (λ i n. cond (sets j m i n) b (got i n)) (λ q. same && done q) designs (restocked j m b t)
   restocked_kept j m b fine same is = go (beq (has t.stock j m) b) refl
     where
@@ -224,7 +224,7 @@ module _ {pile : Beam → Cage → ℕ} {cards : ℕ → Option (List ℕ)} {got
           }
 
 module _ (pile : Beam → Cage → ℕ) (calls : List Call) (t : Table) (k : Kept pile calls t) where
-  marked : has t.stock ≡ in_after calls
+  pub marked : has t.stock ≡ in_after calls
   marked = fun_ext (λ j. fun_ext (λ m. k.marks j m))
 
   -- a call is refused by the table as it is by the calls before it

@@ -2,3 +2,4 @@ pub mod Marks
 pub mod Takes
 pub mod StockAfter
 pub mod Kept
+pub mod Runs
