@@ -17,6 +17,7 @@ use Rattle.search.specs.Lightest.{Lightest}
 use Rattle.sheet.specs.declared.call.Call.{Call}
 use Rattle.sheet.specs.declared.call.Call.TheVariants as call
 use Rattle.sheet.specs.declared.entry.Entry.{Entry}
+use Rattle.sheet.specs.declared.reading.Reading.{Reading}
 use Rattle.sheet.specs.declared.reading.Shown.{Shown}
 use Rattle.sheet.specs.declared.reading.Shown.TheVariants as shown
 use Rattle.sheet.specs.declared.refusal.Refusal.{Refusal}
@@ -24,10 +25,10 @@ use Rattle.sheet.specs.declared.refusal.Refusal.TheVariants.{NoSuchPlace, PlaceE
 use Rattle.sheet.specs.declared.table.Table.{Table}
 use Rattle.sheet.specs.Places.{beam_of, opened, decided, shown_of, shown_by}
 use Rattle.sheet.specs.Table.{place_at, with_place, restocked, settled}
-use Rattle.sheet.specs.Calls.{New, at_place, why_refused, why, is_known, Takes, Does, Makes}
+use Rattle.sheet.specs.Calls.{New, at_place, why_refused, why, is_known, Takes, Does, Makes, Reads}
 use Rattle.sheet.specs.History.{in_after, stocked_after, card_by, card_after, why_after, in_by_number, decided_by, decided_after, designs_by, designs_after, IsBeamAfter}
 use Rattle.sheet.specs.Law.{IsRight, IsDecided, IsDecidedByDesign, Lawful}
-use Rattle.sheet.specs.Runs.{Run, opened as run_opened, made, Grows}
+use Rattle.sheet.specs.Runs.{Run, opened as run_opened, made, Grows, ReadsLawfully, CountsDesigns}
 use Rattle.sheet.proofs.Kept.{Holds, IsDecidedWell, Right, is_decided, KeptBy, Kept, both, unless, also, swapped, all_alike, same_why, marked, written, restocked_kept}
 
 -- a refused call sets no mark
@@ -201,6 +202,7 @@ kept (made {calls = calls} {t = t} {t' = t'} c o run m) =
 
 -- a call leads every run on, and is refused as the calls before it determine
 pub grows : (pile : Beam → Cage → ℕ) (t : Table) (c : Call) (o : Option Refusal) (t' : Table) → Makes pile t c o t' → Grows pile t c o t'
+unfolding Grows
 grows pile t c o t' m = λ calls run. (made c o run m, sym (same_why pile calls t (kept run) c) ∙ why_is pile t c o t' m)
 
 -- what a place shows is right, by what it holds
@@ -250,5 +252,12 @@ lawful pile calls t run p =
       (subst (λ (g : Kind → ℕ → Bool). Right pile g (place_at t p)) (marked pile calls t k) (k.right p)) (k.shows p) in
     record { right = r; decided = by_design pile calls p _ r }
 
-pub counted : (pile : Beam → Cage → ℕ) (calls : List Call) (t : Table) → Run pile calls t → t.count ≡ min (designs_after calls) 4294967295
-counted pile calls t run = (kept run).count
+-- so a reading is lawful, and the count is that of the designs
+pub reads_lawfully : (pile : Beam → Cage → ℕ) (t : Table) (p : ℕ) (r : Result Reading Refusal) → Reads p t r → ReadsLawfully pile t p r
+unfolding ReadsLawfully
+reads_lawfully pile t p (Ok reading) h = λ calls run. subst (λ (s : Shown). Lawful pile calls p s) (sym h.2) (lawful pile calls t run p)
+reads_lawfully pile t p (Err e) h = tt
+
+pub counts_designs : (pile : Beam → Cage → ℕ) (t : Table) → CountsDesigns pile t t.count
+unfolding CountsDesigns
+counts_designs pile t = λ calls run. (kept run).count
