@@ -3,3 +3,4 @@ pub mod Takes
 pub mod StockAfter
 pub mod Kept
 pub mod Runs
+pub mod Answering

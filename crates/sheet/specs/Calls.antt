@@ -10,6 +10,8 @@ use Rattle.search.specs.declared.decision.Decision.{Decision}
 use Rattle.stock.specs.Kinds.{kind_number, known}
 use Rattle.stock.specs.Stock.{has, offers_cages}
 use Rattle.search.specs.Lightest.{Lightest}
+use Rattle.sheet.specs.declared.call.Answer.{Answer}
+use Rattle.sheet.specs.declared.call.Answer.TheVariants as answer
 use Rattle.sheet.specs.declared.call.Call.{Call}
 use Rattle.sheet.specs.declared.call.Call.TheVariants.{Enter, Correct, Strike, Stock, Design, Read, Count}
 use Rattle.sheet.specs.declared.reading.Reading.{Reading}
@@ -85,6 +87,15 @@ Makes answer t call None t' = (why t call ≡ None) × Does answer t call t'
 abbrev pub refusal : {A : Type 0} → Result A Refusal → Option Refusal
 refusal (Ok x) = None
 refusal (Err e) = Some e
+
+-- the answer to a call that only changes the sheet, to one that reads, and to one that counts
+abbrev pub done : Result Unit Refusal → Result Answer Refusal
+done (Ok x) = Ok answer.Done
+done (Err e) = Err e
+
+abbrev pub shows : Result Reading Refusal → Result Answer Refusal
+shows (Ok reading) = Ok (answer.Shows reading)
+shows (Err e) = Err e
 
 -- what the place shows, or that there is no such place
 abbrev pub Reads : ℕ → Table → Result Reading Refusal → Type 0

@@ -3,13 +3,14 @@
 use Rattle.std.specs.Prelude.{◌≡◌, ℕ, min, List, [], ◌∷◌, Option, Result, IfOk}
 use Rattle.rebar.specs.declared.beam.Beam.{Beam}
 use Rattle.rebar.specs.declared.cage.Cage.{Cage}
+use Rattle.sheet.specs.declared.call.Answer.{Answer}
 use Rattle.sheet.specs.declared.call.Call.{Call}
 use Rattle.sheet.specs.declared.reading.Reading.{Reading}
 use Rattle.sheet.specs.declared.refusal.Refusal.{Refusal}
 use Rattle.sheet.specs.declared.table.Table.{Table}
 use Rattle.sheet.specs.Calls.{New, Makes}
 use Rattle.sheet.specs.History.{why_after, designs_after}
-use Rattle.sheet.specs.Law.{Lawful}
+use Rattle.sheet.specs.Law.{Lawful, Answers}
 
 -- the calls, the newest first, have led to a table
 pub data Run (pile : Beam → Cage → ℕ) : List Call → Table → Type 0 where
@@ -28,3 +29,7 @@ ReadsLawfully pile t p r = IfOk r (λ reading. (calls : List Call) → Run pile 
 -- a count is that of the designs in every history that led to a table
 unfoldable pub CountsDesigns : (Beam → Cage → ℕ) → Table → ℕ → Type 0
 CountsDesigns pile t n = (calls : List Call) → Run pile calls t → n ≡ min (designs_after calls) 4294967295
+
+-- a call of a table is answered as every history that led to it determines
+unfoldable pub AnswersLawfully : (Beam → Cage → ℕ) → Table → Call → Result Answer Refusal → Type 0
+AnswersLawfully pile t call r = (calls : List Call) → Run pile calls t → Answers pile calls call r

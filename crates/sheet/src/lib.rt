@@ -7,5 +7,7 @@ mod entry; // a beam on the sheet with its decision
 mod place; // the places, by number
 pub mod reading; // what is read of a place
 pub mod refusal; // why a call is refused
+mod run; // all calls of a list, one after the other
+pub mod exchange; // calls with their answers
 pub mod sheet; // a sheet on a pile of article books, and its calls
 mod table; // what the places hold, the stock and the count

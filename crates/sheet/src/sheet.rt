@@ -112,6 +112,7 @@ impl<P: Book> Sheet<P> {
     #[tactic(auto, using(crate::proofs::Runs::grows, crate::proofs::Runs::reads_lawfully))]
     pub fn read(&self, place: u8) -> Result<Reading, Refusal>
         ensures what_the_place_shows { Reads place self.now.table result }
+        ensures nothing_changed { Makes (P.Book.answer self.now.pile) self.now.table (call.Read place) (refusal result) self.now.table }
         ensures history_grows_by_this_call { Grows (P.Book.answer self.now.pile) self.now.table (call.Read place) (refusal result) self.now.table }
         ensures sound_and_lightest { ReadsLawfully (P.Book.answer self.now.pile) self.now.table place result }
     {

@@ -1,0 +1,43 @@
+ghost use Rattle.std.specs.Prelude.{◌≡◌};
+ghost use Rattle.sheet.specs.Calls.{Makes, refusal, done, shows};
+ghost use Rattle.sheet.specs.Runs.{AnswersLawfully};
+
+use crate::call::{Answer, Call};
+use crate::reading::Reading;
+use crate::refusal::Refusal;
+use crate::sheet::Sheet;
+use books::book::Book;
+
+// The answer to a call that only changes the sheet.
+fn done(made: Result<(), Refusal>) -> Result<Answer, Refusal>
+    ensures { result ≡ done made }
+{
+    made.map(|()| Answer::Done)
+}
+
+// The answer to a call that reads a place.
+fn shows(read: Result<Reading, Refusal>) -> Result<Answer, Refusal>
+    ensures { result ≡ shows read }
+{
+    read.map(Answer::Shows)
+}
+
+impl<P: Book> Sheet<P> {
+    // Makes a call, whichever it is.
+    #[tactic(auto, using(crate::proofs::Answering::done_made, crate::proofs::Answering::read_made, crate::proofs::Answering::done_lawfully, crate::proofs::Answering::shown_lawfully, crate::proofs::Answering::counted_lawfully))]
+    fn make(&mut self, call: &Call) -> Result<Answer, Refusal>
+        ensures keeps_the_pile { self.new.pile ≡ self.old.pile }
+        ensures as_the_call { Makes (P.Book.answer self.old.pile) self.old.table call.now (refusal result) self.new.table }
+        ensures as_the_calls_before_determine { AnswersLawfully (P.Book.answer self.old.pile) self.old.table call.now result }
+    {
+        match *call {
+            Call::Enter { place, card } => done(self.enter(place, card)),
+            Call::Correct { place, card } => done(self.correct(place, card)),
+            Call::Strike { place } => done(self.strike(place)),
+            Call::Stock { kind, mark, is_in } => done(self.stock(kind, mark, is_in)),
+            Call::Design { place } => done(self.design(place)),
+            Call::Read { place } => shows(self.read(place)),
+            Call::Count => Ok(Answer::Designs(self.count())),
+        }
+    }
+}
