@@ -4,3 +4,4 @@ pub mod StockAfter
 pub mod Kept
 pub mod Runs
 pub mod Answering
+pub mod Running

@@ -1,5 +1,5 @@
 -- What a sheet on a pile of article books may answer after any list of calls, the newest first.
-use Rattle.std.specs.Prelude.{◌≡◌, ℕ, min, Bool, true, false, List, [], ◌∷◌, Some, None, Ok, Err, Result}
+use Rattle.std.specs.Prelude.{◌≡◌, ℕ, min, Bool, true, false, List, [], ◌∷◌, map, Some, None, Ok, Err, Option, Result}
 use Rattle.rebar.specs.declared.beam.Beam.{Beam}
 use Rattle.rebar.specs.declared.cage.Cage.{Cage}
 use Rattle.books.specs.Answers.{Passes}
@@ -10,6 +10,7 @@ use Rattle.sheet.specs.declared.call.Answer.{Answer}
 use Rattle.sheet.specs.declared.call.Answer.TheVariants as answer
 use Rattle.sheet.specs.declared.call.Call.{Call}
 use Rattle.sheet.specs.declared.call.Call.TheVariants.{Enter, Correct, Strike, Stock, Design, Read, Count}
+use Rattle.sheet.specs.declared.exchange.Exchange.{Exchange}
 use Rattle.sheet.specs.declared.reading.Shown.{Shown}
 use Rattle.sheet.specs.declared.reading.Shown.TheVariants.{Empty, Open, Chosen, Impossible}
 use Rattle.sheet.specs.declared.refusal.Refusal.{Refusal}
@@ -60,3 +61,17 @@ Tells pile calls call _ = ⊥
 abbrev pub Answers : (Beam → Cage → ℕ) → List Call → Call → Result Answer Refusal → Type 0
 Answers pile calls call (Err e) = why_after calls call ≡ Some e
 Answers pile calls call (Ok a) = (why_after calls call ≡ None) × Tells pile calls call a
+
+-- the call of an exchange
+abbrev pub call_of : Exchange → Call
+call_of x = x.call
+
+-- there is an answer, and it is so
+abbrev pub HasAnswer : (Result Answer Refusal → Type 0) → Option (Result Answer Refusal) → Type 0
+HasAnswer P None = ⊥
+HasAnswer P (Some r) = P r
+
+-- every call of some exchanges, the newest first, is answered as the calls before it determine
+abbrev pub AllAnswered : (Beam → Cage → ℕ) → List Exchange → Type 0
+AllAnswered pile [] = Unit {0}
+AllAnswered pile (x ∷ earlier) = HasAnswer (Answers pile (map call_of earlier) x.call) x.answer × AllAnswered pile earlier

@@ -1,8 +1,11 @@
-ghost use Rattle.std.specs.Prelude.{◌≡◌};
+ghost use Rattle.std.specs.Prelude.{◌≡◌, ℕ, map, reverse};
 ghost use Rattle.sheet.specs.Calls.{Makes, refusal, done, shows};
-ghost use Rattle.sheet.specs.Runs.{AnswersLawfully};
+ghost use Rattle.sheet.specs.Law.{call_of, AllAnswered, Lawful};
+ghost use Rattle.sheet.specs.Runs.{Run, AnswersLawfully};
+ghost use Rattle.sheet.specs.Shown.{shown_at};
 
 use crate::call::{Answer, Call};
+use crate::exchange::Exchange;
 use crate::reading::Reading;
 use crate::refusal::Refusal;
 use crate::sheet::Sheet;
@@ -40,4 +43,19 @@ impl<P: Book> Sheet<P> {
             Call::Count => Ok(Answer::Designs(self.count())),
         }
     }
+}
+
+// Opens a sheet on a pile, makes all calls in their order, and leaves the answer of each beside it.
+pub fn run<P: Book>(pile: P, exchanges: &mut [Exchange<'_>]) -> Sheet<P>
+    ensures keeps_the_pile { result.pile ≡ pile }
+    ensures same_calls { map call_of exchanges.new ≡ map call_of exchanges.old }
+    ensures every_call_answered { AllAnswered (P.Book.answer pile) (reverse exchanges.new) }
+    ensures history_of_these_calls { Run (P.Book.answer pile) (map call_of (reverse exchanges.new)) result.table }
+    ensures sound_and_lightest { (p : ℕ) → Lawful (P.Book.answer pile) (map call_of (reverse exchanges.new)) p (shown_at result p) }
+{
+    let mut sheet = Sheet::open(pile);
+    for exchange in exchanges.iter_mut() {
+        exchange.answer = Some(sheet.make(&exchange.call));
+    }
+    sheet
 }
