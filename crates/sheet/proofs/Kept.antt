@@ -1,32 +1,28 @@
 -- What holds of the table of a sheet after any list of calls.
-use Rattle.std.proofs.Common.{◌≡◌, ◌≢◌, ℕ, zero, suc, ◌-◌, ◌+◌, ◌<◌, ◌≤◌, min, Bool, true, false, cond, not, ◌&&◌, ◌||◌, T, List, [], ◌∷◌, length, map, replicate, Some, None, Ok, Option, is_some, is_none, nat_lt, ◌==◌, slice_index_or, slice_set, refl, sym, ap, ◌∙◌, subst, arith, ⊎_elim, get_or-set_same, get_or-set_other, eq-eqb, ne_eqb, eqb-true, ltb-false, length-set}
+use Rattle.std.proofs.Common.{◌≡◌, ◌≢◌, ℕ, zero, suc, ◌-◌, ◌<◌, ◌≤◌, min, Bool, true, false, cond, not, ◌&&◌, ◌||◌, List, [], ◌∷◌, length, map, replicate, Some, None, Ok, Option, is_some, ◌==◌, slice_index_or, slice_set, refl, sym, ap, ◌∙◌, subst, arith, ⊎_elim, get_or-set_same, get_or-set_other, eq-eqb, ne_eqb, length-set}
 use mathlib.Core.Path.{fun_ext}
 use Rattle.std.specs.Bool.{beq}
 use Rattle.std.specs.List.{list_any}
-use Rattle.std.proofs.lemmas.Bool.{cases_eq, cases_Bool, and_parts, or_parts, false≢true}
-use Rattle.std.proofs.lemmas.List.{length-map, length-replicate}
+use Rattle.std.proofs.lemmas.Bool.{cases_eq, and_parts, or_parts, false≢true}
+use Rattle.std.proofs.lemmas.List.{length-map}
 use Rattle.rebar.specs.declared.beam.Beam.{Beam}
 use Rattle.rebar.specs.declared.cage.Cage.{Cage}
-use Rattle.books.specs.Answers.{Passes}
 use Rattle.card.specs.Card.{CardAs}
 use Rattle.stock.specs.declared.kind.Kind.{Kind}
 use Rattle.stock.specs.declared.kind.Kind.TheVariants.{Main, Tie}
 use Rattle.stock.specs.declared.stock.Stock.{Stock}
-use Rattle.stock.specs.Kinds.{kind_number, known}
+use Rattle.stock.specs.Kinds.{known}
 use Rattle.stock.specs.Stock.{has, with_mark, offers_cages}
 use Rattle.search.specs.declared.decision.Decision.{Decision}
 use Rattle.search.specs.declared.decision.Decision.TheVariants as decision
-use Rattle.search.specs.Lightest.{FromStock, Lightest}
+use Rattle.search.specs.Lightest.{Lightest}
 use Rattle.sheet.specs.declared.call.Call.{Call}
-use Rattle.sheet.specs.declared.call.Call.TheVariants as call
 use Rattle.sheet.specs.declared.entry.Entry.{Entry}
-use Rattle.sheet.specs.declared.refusal.Refusal.{Refusal}
 use Rattle.sheet.specs.declared.table.Table.{Table}
-use Rattle.sheet.specs.Places.{beam_of, opened, decided, uses, doubtful, kept, reopened, place_reopened}
-use Rattle.sheet.specs.Table.{place_at, with_place, restocked, settled}
-use Rattle.sheet.specs.Calls.{New, why_refused, why, is_known, Does, Makes}
-use Rattle.sheet.specs.History.{marks, in_after, stocked_after, card_by, card_after, why_after, in_by_number, decided_by, decided_after, designs_by, designs_after}
-use Rattle.sheet.specs.Runs.{Run, opened as run_opened, made}
+use Rattle.sheet.specs.Places.{beam_of, decided, uses, kept, place_reopened}
+use Rattle.sheet.specs.Table.{place_at, restocked}
+use Rattle.sheet.specs.Calls.{why}
+use Rattle.sheet.specs.History.{marks, in_after, stocked_after, card_after, why_after, decided_after, designs_after}
 use Rattle.sheet.proofs.StockAfter.{sets, has_set, has_same, offered, stay, no_more}
 
 -- a place holds a beam that has to do with the card there, if any
@@ -196,7 +192,7 @@ module _ {pile : Beam → Cage → ℕ} {cards : ℕ → Option (List ℕ)} {got
 
       go : (v : Bool) → beq (has t.stock j m) b ≡ v
           → KeptBy pile cards (λ i n. cond (sets j m i n) b (got i n)) (λ q. same && done q) designs
-              (cond v t (record { places = map (place_reopened j m b) t.places; stock = with_mark t.stock j m b; count = t.count }))
+          (cond v t (record { places = map (place_reopened j m b) t.places; stock = with_mark t.stock j m b; count = t.count }))
       go true h =
           record {
             places = k.places;

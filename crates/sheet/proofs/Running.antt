@@ -1,16 +1,15 @@
 -- The loop over the calls of a list, one after the other.
-use Rattle.std.proofs.Common.{◌≡◌, ℕ, ◌+◌, ◌<◌, ◌≤◌, List, [], ◌∷◌, ◌++◌, map, reverse, length, take, Some, Result, slice_index_or, slice_set, refl, sym, ap, ◌∙◌, subst, arith}
+use Rattle.std.proofs.Common.{◌≡◌, ℕ, ◌+◌, ◌<◌, ◌≤◌, List, [], ◌∷◌, ◌++◌, map, reverse, length, take, Some, Result, slice_index_or, slice_set, refl, sym, subst}
 use Rattle.std.proofs.Math.Seq.{map-set_same}
 use Rattle.std.proofs.lemmas.List.{reverse-append, take_all, take_more_set}
 use Rattle.rebar.specs.declared.beam.Beam.{Beam}
 use Rattle.rebar.specs.declared.cage.Cage.{Cage}
 use Rattle.sheet.specs.declared.call.Answer.{Answer}
-use Rattle.sheet.specs.declared.call.Call.{Call}
-use Rattle.sheet.specs.declared.exchange.Exchange.{Exchange}
+use Rattle.sheet.specs.declared.call.Exchange.{Exchange}
 use Rattle.sheet.specs.declared.refusal.Refusal.{Refusal}
 use Rattle.sheet.specs.declared.table.Table.{Table}
 use Rattle.sheet.specs.Calls.{Makes, refusal}
-use Rattle.sheet.specs.Law.{call_of, Answers, HasAnswer, AllAnswered}
+use Rattle.sheet.specs.Law.{call_of, AllAnswered}
 use Rattle.sheet.specs.Runs.{Run, made, AnswersLawfully}
 
 -- the calls of some exchanges have led to a table, and each is answered

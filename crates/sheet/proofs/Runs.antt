@@ -1,12 +1,11 @@
 -- Every call keeps what holds of the table, and so the law holds after any list of calls.
-use Rattle.std.proofs.Common.{◌≡◌, ◌≢◌, ℕ, zero, suc, ◌+◌, ◌<◌, ◌≤◌, min, Bool, true, false, cond, not, ◌&&◌, ◌||◌, List, [], ◌∷◌, length, replicate, ◌-◌, Some, None, Ok, Err, Option, Result, is_some, is_none, nat_lt, ◌==◌, slice_index_or, refl, sym, ap, ◌∙◌, subst, arith, eqb-true, eq-eqb, ltb-false}
+use Rattle.std.proofs.Common.{◌≡◌, ℕ, suc, ◌+◌, ◌≤◌, min, Bool, true, false, cond, not, ◌&&◌, ◌||◌, List, ◌∷◌, length, ◌-◌, Some, None, Ok, Err, Option, Result, is_some, is_none, nat_lt, ◌==◌, slice_index_or, refl, sym, ap, ◌∙◌, subst, arith, eqb-true, eq-eqb, ltb-false}
 use mathlib.Core.Path.{fun_ext}
 use Rattle.std.specs.Bool.{beq}
-use Rattle.std.proofs.lemmas.Bool.{false≢true, false_from_ne_true, cond_both}
-use Rattle.std.proofs.lemmas.List.{length-replicate}
+use Rattle.std.proofs.lemmas.Bool.{false≢true, false_from_ne_true}
 use Rattle.rebar.specs.declared.beam.Beam.{Beam}
 use Rattle.rebar.specs.declared.cage.Cage.{Cage}
-use Rattle.card.specs.Card.{card_fault, CardAs}
+use Rattle.card.specs.Card.{CardAs}
 use Rattle.stock.specs.declared.kind.Kind.{Kind}
 use Rattle.stock.specs.declared.kind.Kind.TheVariants.{Main, Tie}
 use Rattle.stock.specs.Kinds.{kind_number, known}
@@ -25,7 +24,7 @@ use Rattle.sheet.specs.declared.refusal.Refusal.TheVariants.{NoSuchPlace, PlaceE
 use Rattle.sheet.specs.declared.table.Table.{Table}
 use Rattle.sheet.specs.Places.{beam_of, opened, decided, shown_of, shown_by}
 use Rattle.sheet.specs.Table.{place_at, with_place, restocked, settled}
-use Rattle.sheet.specs.Calls.{New, at_place, why_refused, why, is_known, Takes, Does, Makes, Reads}
+use Rattle.sheet.specs.Calls.{at_place, why, is_known, Takes, Does, Makes, Reads}
 use Rattle.sheet.specs.History.{in_after, stocked_after, card_by, card_after, why_after, in_by_number, decided_by, decided_after, designs_by, designs_after, IsBeamAfter}
 use Rattle.sheet.specs.Law.{IsRight, IsDecided, IsDecidedByDesign, Lawful}
 use Rattle.sheet.specs.Runs.{Run, opened as run_opened, made, Grows, ReadsLawfully, CountsDesigns}
@@ -158,14 +157,14 @@ module _ (pile : Beam → Cage → ℕ) (calls : List Call) (t : Table) (k : Kep
   after c t' o w m =
       subst
       (λ (o : Option Refusal). KeptBy pile (λ q. cond (is_none o) (card_by c q (card_after calls q)) (card_after calls q)) (in_after (c ∷ calls))
-        (λ q. cond (is_none o) (decided_by calls c q (decided_after calls q)) (decided_after calls q))
-        (cond (is_none o) (designs_by c (designs_after calls)) (designs_after calls)) t')
+      (λ q. cond (is_none o) (decided_by calls c q (decided_after calls q)) (decided_after calls q))
+      (cond (is_none o) (designs_by c (designs_after calls)) (designs_after calls)) t')
       (sym w) (go o w m)
     where
       go : (o : Option Refusal) → why_after calls c ≡ o → Makes pile t c o t'
           → KeptBy pile (λ q. cond (is_none o) (card_by c q (card_after calls q)) (card_after calls q)) (in_after (c ∷ calls))
-              (λ q. cond (is_none o) (decided_by calls c q (decided_after calls q)) (decided_after calls q))
-              (cond (is_none o) (designs_by c (designs_after calls)) (designs_after calls)) t'
+          (λ q. cond (is_none o) (decided_by calls c q (decided_after calls q)) (decided_after calls q))
+          (cond (is_none o) (designs_by c (designs_after calls)) (designs_after calls)) t'
       go None w m = done c t' w m.1
       go (Some e) w m =
           subst (λ (g : Kind → ℕ → Bool). KeptBy pile (card_after calls) g (decided_after calls) (designs_after calls) t')
@@ -249,7 +248,7 @@ pub lawful : (pile : Beam → Cage → ℕ) (calls : List Call) (t : Table) → 
 lawful pile calls t run p =
     let k = kept run in
     let r = by_holding pile calls p (card_after calls p) refl (place_at t p) (k.holds p)
-      (subst (λ (g : Kind → ℕ → Bool). Right pile g (place_at t p)) (marked pile calls t k) (k.right p)) (k.shows p) in
+    (subst (λ (g : Kind → ℕ → Bool). Right pile g (place_at t p)) (marked pile calls t k) (k.right p)) (k.shows p) in
     record { right = r; decided = by_design pile calls p _ r }
 
 -- so a reading is lawful, and the count is that of the designs

@@ -1,8 +1,8 @@
 -- What a stock has after a mark of it is set, and which cages it then has.
-use Rattle.std.proofs.Common.{◌≡◌, ◌≢◌, ℕ, ◌-◌, ◌<◌, ◌≤◌, Bool, true, false, cond, ◌&&◌, ◌||◌, T, List, [], ◌∷◌, length, nat_le, nat_eq, ◌==◌, slice_index_or, slice_set, refl, sym, ap, ◌∙◌, subst, arith, ⊎_elim, get_or-set_same, get_or-set_other, eq-eqb, ne_eqb, eqb-true}
+use Rattle.std.proofs.Common.{◌≡◌, ◌≢◌, ℕ, ◌-◌, ◌<◌, ◌≤◌, Bool, true, false, cond, ◌&&◌, T, List, [], ◌∷◌, length, nat_le, ◌==◌, slice_index_or, slice_set, refl, sym, ap, ◌∙◌, subst, arith, ⊎_elim, get_or-set_same, get_or-set_other, eq-eqb, ne_eqb, eqb-true}
 use Rattle.std.specs.Bool.{beq}
 use Rattle.std.specs.List.{list_any}
-use Rattle.std.proofs.lemmas.Bool.{cases_eq, cases_Bool, and_parts, and_from, and_left, and_right, or_parts, false≢true, leb-true}
+use Rattle.std.proofs.lemmas.Bool.{cases_eq, and_parts, and_left, and_right, or_parts, false≢true, leb-true}
 use Rattle.rebar.specs.declared.cage.Cage.{Cage}
 use Rattle.stock.specs.declared.kind.Kind.{Kind}
 use Rattle.stock.specs.declared.kind.Kind.TheVariants.{Main, Tie}
@@ -123,11 +123,13 @@ module _ (got got' : Kind → ℕ → Bool) (k : Kind) (m : ℕ) (less : (j : Ki
 pub stay : (got got' : Kind → ℕ → Bool) (k : Kind) (m : ℕ) → ((j : Kind) (n : ℕ) → got' j n ≡ cond (sets k m j n) false (got j n))
     → (c : Cage) → uses k m c ≡ false → FromStock got c → FromStock got' c
 stay got got' Main m less c u h =
-    let o = or_parts (c.bottom.mark == m) (c.top.mark == m) u in
-    (other_mark got got' Main m less Main c.bottom.mark o.0 h.0,
-    other_mark got got' Main m less Main c.top.mark o.1 h.1,
-    other got got' Main m less Tie c.ties.mark refl h.2)
-stay got got' Tie m less c u h =
-    (other got got' Tie m less Main c.bottom.mark refl h.0,
-    other got got' Tie m less Main c.top.mark refl h.1,
-    other_mark got got' Tie m less Tie c.ties.mark u h.2)
+    let o = or_parts (c.bottom.mark == m) (c.top.mark == m) u in (
+      other_mark got got' Main m less Main c.bottom.mark o.0 h.0,
+      other_mark got got' Main m less Main c.top.mark o.1 h.1,
+      other got got' Main m less Tie c.ties.mark refl h.2,
+    )
+stay got got' Tie m less c u h = (
+  other got got' Tie m less Main c.bottom.mark refl h.0,
+  other got got' Tie m less Main c.top.mark refl h.1,
+  other_mark got got' Tie m less Tie c.ties.mark u h.2,
+)

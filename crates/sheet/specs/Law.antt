@@ -1,5 +1,5 @@
 -- What a sheet on a pile of article books may answer after any list of calls, the newest first.
-use Rattle.std.specs.Prelude.{◌≡◌, ℕ, min, Bool, true, false, List, [], ◌∷◌, map, Some, None, Ok, Err, Option, Result}
+use Rattle.std.specs.Prelude.{◌≡◌, ℕ, min, Bool, false, List, [], ◌∷◌, map, Some, None, Ok, Err, Option, Result}
 use Rattle.rebar.specs.declared.beam.Beam.{Beam}
 use Rattle.rebar.specs.declared.cage.Cage.{Cage}
 use Rattle.books.specs.Answers.{Passes}
@@ -9,8 +9,8 @@ use Rattle.search.specs.Lightest.{FromStock, Lightest}
 use Rattle.sheet.specs.declared.call.Answer.{Answer}
 use Rattle.sheet.specs.declared.call.Answer.TheVariants as answer
 use Rattle.sheet.specs.declared.call.Call.{Call}
-use Rattle.sheet.specs.declared.call.Call.TheVariants.{Enter, Correct, Strike, Stock, Design, Read, Count}
-use Rattle.sheet.specs.declared.exchange.Exchange.{Exchange}
+use Rattle.sheet.specs.declared.call.Call.TheVariants.{Design, Read, Count}
+use Rattle.sheet.specs.declared.call.Exchange.{Exchange}
 use Rattle.sheet.specs.declared.reading.Shown.{Shown}
 use Rattle.sheet.specs.declared.reading.Shown.TheVariants.{Empty, Open, Chosen, Impossible}
 use Rattle.sheet.specs.declared.refusal.Refusal.{Refusal}

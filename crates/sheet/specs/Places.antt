@@ -1,5 +1,5 @@
 -- What a place holds and shows, and what becomes of it when a mark comes in or goes out.
-use Rattle.std.specs.Prelude.{ℕ, Bool, true, false, cond, ◌||◌, Some, None, Option, ◌==◌}
+use Rattle.std.specs.Prelude.{ℕ, Bool, true, cond, ◌||◌, Some, None, Option, ◌==◌}
 use Rattle.rebar.specs.declared.beam.Beam.{Beam}
 use Rattle.rebar.specs.declared.cage.Cage.{Cage}
 use Rattle.stock.specs.declared.kind.Kind.{Kind}

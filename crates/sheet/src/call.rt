@@ -1,4 +1,5 @@
 use crate::reading::Reading;
+use crate::refusal::Refusal;
 
 // A call of a sheet with its arguments, which may be any numbers and any bytes. Opening a sheet is none: every list of
 // calls begins on a sheet just opened.
@@ -19,4 +20,11 @@ pub enum Answer {
     Done,
     Shows(Reading),
     Designs(u32),
+}
+
+// A call with what it was answered, nothing before it is made.
+#[derive(Clone, Copy)]
+pub struct Exchange<'a> {
+    pub call: Call<'a>,
+    pub answer: Option<Result<Answer, Refusal>>,
 }

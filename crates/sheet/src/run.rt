@@ -4,8 +4,7 @@ ghost use Rattle.sheet.specs.Law.{call_of, AllAnswered, Lawful};
 ghost use Rattle.sheet.specs.Runs.{Run, AnswersLawfully};
 ghost use Rattle.sheet.specs.Shown.{shown_at};
 
-use crate::call::{Answer, Call};
-use crate::exchange::Exchange;
+use crate::call::{Answer, Call, Exchange};
 use crate::reading::Reading;
 use crate::refusal::Refusal;
 use crate::sheet::Sheet;

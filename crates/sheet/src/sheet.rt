@@ -54,7 +54,7 @@ impl<P: Book> Sheet<P> {
 
     // Puts the beam of another card in the place of a beam.
     #[tactic(auto, using(crate::proofs::Takes::corrected, crate::proofs::Runs::grows))]
-    pub(crate) fn correct(&mut self, place: u8, card: &[u8]) -> Result<(), Refusal>
+    pub fn correct(&mut self, place: u8, card: &[u8]) -> Result<(), Refusal>
         ensures keeps_the_pile { self.new.pile ≡ self.old.pile }
         ensures beam_replaced_and_open_or_nothing_changed { Makes (P.Book.answer self.old.pile) self.old.table (call.Correct place card.entry) (refusal result) self.new.table }
         ensures history_grows_by_this_call { Grows (P.Book.answer self.old.pile) self.old.table (call.Correct place card.entry) (refusal result) self.new.table }
@@ -68,7 +68,7 @@ impl<P: Book> Sheet<P> {
 
     // Takes the beam away from a place.
     #[tactic(auto, using(crate::proofs::Runs::grows))]
-    pub(crate) fn strike(&mut self, place: u8) -> Result<(), Refusal>
+    pub fn strike(&mut self, place: u8) -> Result<(), Refusal>
         ensures keeps_the_pile { self.new.pile ≡ self.old.pile }
         ensures place_empty_or_nothing_changed { Makes (P.Book.answer self.old.pile) self.old.table (call.Strike place) (refusal result) self.new.table }
         ensures history_grows_by_this_call { Grows (P.Book.answer self.old.pile) self.old.table (call.Strike place) (refusal result) self.new.table }
@@ -112,7 +112,6 @@ impl<P: Book> Sheet<P> {
     #[tactic(auto, using(crate::proofs::Runs::grows, crate::proofs::Runs::reads_lawfully))]
     pub fn read(&self, place: u8) -> Result<Reading, Refusal>
         ensures what_the_place_shows { Reads place self.now.table result }
-        ensures nothing_changed { Makes (P.Book.answer self.now.pile) self.now.table (call.Read place) (refusal result) self.now.table }
         ensures history_grows_by_this_call { Grows (P.Book.answer self.now.pile) self.now.table (call.Read place) (refusal result) self.now.table }
         ensures sound_and_lightest { ReadsLawfully (P.Book.answer self.now.pile) self.now.table place result }
     {
@@ -124,7 +123,7 @@ impl<P: Book> Sheet<P> {
     }
     // How many design orders were not refused, up to the greatest number.
     #[tactic(auto, using(crate::proofs::Runs::grows, crate::proofs::Runs::counts_designs))]
-    pub(crate) fn count(&self) -> u32
+    pub fn count(&self) -> u32
         ensures count_of_the_table { result ≡ self.now.table.count }
         ensures history_grows_by_this_call { Grows (P.Book.answer self.now.pile) self.now.table call.Count None self.now.table }
         ensures designs_that_were_not_refused { CountsDesigns (P.Book.answer self.now.pile) self.now.table result }

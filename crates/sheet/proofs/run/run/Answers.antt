@@ -1,4 +1,4 @@
-use Rattle.std.proofs.Common.{rules, ◌≡◌, ◌<◌, ◌∙◌, length, map, reverse, sym, subst, slice_index_or}
+use Rattle.std.proofs.Common.{rules, ◌<◌, ◌∙◌, length, map, reverse, subst, slice_index_or}
 use Rattle.sheet.specs.Calls.{Makes, refusal}
 use Rattle.sheet.specs.Law.{call_of}
 use Rattle.sheet.specs.Runs.{AnswersLawfully}
@@ -11,12 +11,11 @@ loop-exchange-preserved g c =
     let l = c.loop-exchange in
     let call = (slice_index_or l.exchanges l.exchange-index c.exchange-item.result).call in
     let within : l.exchange-index < length l.exchanges = search rules in
-    let pile = g.P.Book.answer c.args.pile in
-    (
+    let pile = g.P.Book.answer c.args.pile in (
       c.make.ensures.keeps_the_pile ∙ l.invariant.0,
       one_more pile l.exchanges l.exchange-index l.sheet.table c.make.new.self.table c.exchange-item.result c.make.result within l.invariant.1
-      (subst (λ p. Makes (g.P.Book.answer p) l.sheet.table call (refusal c.make.result) c.make.new.self.table) l.invariant.0 c.make.ensures.as_the_call)
-      (subst (λ p. AnswersLawfully (g.P.Book.answer p) l.sheet.table call c.make.result) l.invariant.0 c.make.ensures.as_the_calls_before_determine),
+          (subst (λ p. Makes (g.P.Book.answer p) l.sheet.table call (refusal c.make.result) c.make.new.self.table) l.invariant.0 c.make.ensures.as_the_call)
+          (subst (λ p. AnswersLawfully (g.P.Book.answer p) l.sheet.table call c.make.result) l.invariant.0 c.make.ensures.as_the_calls_before_determine),
       same_calls pile l.exchanges l.exchange-index l.sheet.table c.make.new.self.table c.exchange-item.result c.make.result within ∙ l.invariant.2,
     )
 
