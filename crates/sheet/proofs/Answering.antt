@@ -1,5 +1,5 @@
 -- The answers to calls of any kind.
-use Rattle.std.proofs.Common.{◌≡◌, ℕ, ◌<◌, ◌≤◌, true, false, List, Ok, Err, Result, nat_lt, refl, sym, subst, arith}
+use Rattle.std.proofs.Common.{◌≡◌, ℕ, ◌<◌, ◌≤◌, true, false, List, ◌∷◌, Some, None, IfOk, ◌∙◌, Ok, Err, Result, nat_lt, refl, sym, subst, arith}
 use Rattle.std.proofs.lemmas.Bool.Decides.{nat_tests}
 use Rattle.rebar.specs.declared.beam.Beam.{Beam}
 use Rattle.rebar.specs.declared.cage.Cage.{Cage}
@@ -8,11 +8,14 @@ use Rattle.sheet.specs.declared.call.Answer.TheVariants as answer
 use Rattle.sheet.specs.declared.call.Call.{Call}
 use Rattle.sheet.specs.declared.call.Call.TheVariants as call
 use Rattle.sheet.specs.declared.reading.Reading.{Reading}
+use Rattle.sheet.specs.declared.reading.Shown.{Shown}
 use Rattle.sheet.specs.declared.refusal.Refusal.{Refusal}
+use Rattle.sheet.specs.declared.refusal.Refusal.TheVariants.{NoSuchPlace}
 use Rattle.sheet.specs.declared.table.Table.{Table}
 use Rattle.sheet.specs.Calls.{Makes, Reads, refusal, done, shows}
-use Rattle.sheet.specs.Law.{Tells, Answers}
+use Rattle.sheet.specs.Law.{Tells, Answers, Lawful}
 use Rattle.sheet.specs.Runs.{Grows, ReadsLawfully, CountsDesigns, AnswersLawfully}
+use Rattle.sheet.proofs.Runs.{grows, lawful}
 
 module _ (pile : Beam → Cage → ℕ) (t : Table) where
   pub done_made : (c : Call) (r : Result Unit Refusal) (x : Result Answer Refusal) (t' : Table) → x ≡ done r → Makes pile t c (refusal r) t'
@@ -45,6 +48,32 @@ module _ (pile : Beam → Cage → ℕ) (t : Table) where
       λ calls run. subst (λ (v : Result Answer Refusal). Answers pile calls (call.Read p) v) (sym e) ((g calls run).1, (is.1, l calls run))
   shown_lawfully p (Err f) x t' e is g l =
       λ calls run. subst (λ (v : Result Answer Refusal). Answers pile calls (call.Read p) v) (sym e) (g calls run).1
+
+  -- a design order, and the reading that follows it
+  pub read_designed : (p : ℕ) (r : Result Reading Refusal) (t' : Table) → Makes pile t (call.Design p) None t' → Reads p t' r
+      → Makes pile t (call.Design p) (refusal r) t'
+  read_designed p (Ok reading) t' m h = m
+  read_designed p (Err e) t' m h = absurd (no_refusal {f = NoSuchPlace} (sym m.0 ∙ rw (past p h.0) refl))
+    where
+      no_refusal : {f : Refusal} → None ≡ Some f → ⊥
+      no_refusal e = cc
+
+  pub design_made : (p : ℕ) (r : Result Reading Refusal) (x : Result Answer Refusal) (t' : Table) → x ≡ shows r → Makes pile t (call.Design p) (refusal r) t'
+      → Makes pile t (call.Design p) (refusal x) t'
+  design_made p (Ok reading) x t' e m = subst (λ (v : Result Answer Refusal). Makes pile t (call.Design p) (refusal v) t') (sym e) m
+  design_made p (Err f) x t' e m = subst (λ (v : Result Answer Refusal). Makes pile t (call.Design p) (refusal v) t') (sym e) m
+
+  pub designed_lawfully : (p : ℕ) (r : Result Reading Refusal) (x : Result Answer Refusal) (t' : Table) → x ≡ shows r → Makes pile t (call.Design p) (refusal r) t'
+      → IfOk r (λ reading. Reads p t' (Ok reading)) → AnswersLawfully pile t (call.Design p) x
+  unfolding Grows AnswersLawfully
+  designed_lawfully p (Ok reading) x t' e m h =
+      λ calls run.
+      let g = grows pile t (call.Design p) None t' m calls run in
+      let l : Lawful pile (call.Design p ∷ calls) p reading.shown =
+      subst (λ (s : Shown). Lawful pile (call.Design p ∷ calls) p s) (sym h.2) (lawful pile (call.Design p ∷ calls) t' g.0 p) in
+      subst (λ (v : Result Answer Refusal). Answers pile calls (call.Design p) v) (sym e) (g.1, (h.1, l))
+  designed_lawfully p (Err f) x t' e m h =
+      λ calls run. subst (λ (v : Result Answer Refusal). Answers pile calls (call.Design p) v) (sym e) (grows pile t (call.Design p) (Some f) t' m calls run).1
 
   -- the count
   pub counted_lawfully : (n : ℕ) → CountsDesigns pile t n → AnswersLawfully pile t call.Count (Ok (answer.Designs n))

@@ -47,11 +47,13 @@ pub record Lawful (pile : Beam → Cage → ℕ) (calls : List Call) (p : ℕ) (
   pub right : IsRight pile calls p shown
   pub decided : IsDecidedByDesign pile calls p shown
 
--- what a call that is not refused answers after these: a reading is of its place, and lawful; the count is the number of
--- designs that were not refused, up to the greatest
+-- what a call that is not refused answers after these: a reading is of its place, and lawful; a design order is answered with
+-- what its place then shows; the count is the number of designs that were not refused, up to the greatest
 abbrev pub Tells : (Beam → Cage → ℕ) → List Call → Call → Answer → Type 0
 Tells pile calls (Read p) (answer.Shows reading) = (reading.place ≡ p) × Lawful pile calls p reading.shown
 Tells pile calls (Read p) _ = ⊥
+Tells pile calls (Design p) (answer.Shows reading) = (reading.place ≡ p) × Lawful pile (Design p ∷ calls) p reading.shown
+Tells pile calls (Design p) _ = ⊥
 Tells pile calls Count (answer.Designs n) = n ≡ min (designs_after calls) 4294967295
 Tells pile calls Count _ = ⊥
 Tells pile calls call answer.Done = Unit {0}

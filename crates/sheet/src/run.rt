@@ -1,5 +1,6 @@
-ghost use Rattle.std.specs.Prelude.{◌≡◌, ℕ, map, reverse};
-ghost use Rattle.sheet.specs.Calls.{Makes, refusal, done, shows};
+ghost use Rattle.std.specs.Prelude.{◌≡◌, ℕ, map, reverse, Ok, IfOk};
+ghost use Rattle.sheet.specs.Calls.{Makes, Reads, refusal, done, shows};
+ghost use Rattle.sheet.specs.declared.call.Call.TheVariants as call;
 ghost use Rattle.sheet.specs.Law.{call_of, AllAnswered, Lawful};
 ghost use Rattle.sheet.specs.Runs.{Run, AnswersLawfully};
 ghost use Rattle.sheet.specs.Shown.{shown_at};
@@ -25,8 +26,19 @@ fn shows(read: Result<Reading, Refusal>) -> Result<Answer, Refusal>
 }
 
 impl<P: Book> Sheet<P> {
+    // Designs the beam at a place, and reads what was decided.
+    #[tactic(auto, using(crate::proofs::Answering::read_designed))]
+    fn design_and_read(&mut self, place: u8) -> Result<Reading, Refusal>
+        ensures keeps_the_pile { self.new.pile ≡ self.old.pile }
+        ensures as_the_call { Makes (P.Book.answer self.old.pile) self.old.table (call.Design place) (refusal result) self.new.table }
+        ensures what_the_place_then_shows { IfOk result (λ reading. Reads place self.new.table (Ok reading)) }
+    {
+        self.design(place)?;
+        self.read(place)
+    }
+
     // Makes a call, whichever it is.
-    #[tactic(auto, using(crate::proofs::Answering::done_made, crate::proofs::Answering::read_made, crate::proofs::Answering::done_lawfully, crate::proofs::Answering::shown_lawfully, crate::proofs::Answering::counted_lawfully))]
+    #[tactic(auto, using(crate::proofs::Answering::done_made, crate::proofs::Answering::read_made, crate::proofs::Answering::done_lawfully, crate::proofs::Answering::shown_lawfully, crate::proofs::Answering::design_made, crate::proofs::Answering::designed_lawfully, crate::proofs::Answering::counted_lawfully))]
     fn make(&mut self, call: &Call) -> Result<Answer, Refusal>
         ensures keeps_the_pile { self.new.pile ≡ self.old.pile }
         ensures as_the_call { Makes (P.Book.answer self.old.pile) self.old.table call.now (refusal result) self.new.table }
@@ -37,7 +49,7 @@ impl<P: Book> Sheet<P> {
             Call::Correct { place, card } => done(self.correct(place, card)),
             Call::Strike { place } => done(self.strike(place)),
             Call::Stock { kind, mark, is_in } => done(self.stock(kind, mark, is_in)),
-            Call::Design { place } => done(self.design(place)),
+            Call::Design { place } => shows(self.design_and_read(place)),
             Call::Read { place } => shows(self.read(place)),
             Call::Count => Ok(Answer::Designs(self.count())),
         }
