@@ -1,2 +1,4 @@
-pub mod Transcript
+pub mod Letters
+pub mod Lines
+pub mod Orders
 pub mod Failures

@@ -1,10 +1,12 @@
-ghost use Rattle.std.specs.Prelude.{◌<◌, length, IfSome};
+ghost use Rattle.std.specs.Prelude.{◌<◌, length, IfSome, MatchOption};
+ghost use Rattle.console.specs.Orders.{Begins, NoOrder};
 
 use sheet::call::Call;
 
 // The call of the first order of a stream, and what follows the order; none where the letter is unknown or the order is cut.
 // The numbers of the call are the stream's bytes, whatever they are.
 pub(crate) fn next_call(stream: &[u8]) -> Option<(Call<'_>, &[u8])>
+    ensures first_order { MatchOption result (NoOrder stream.now) (λ x. Begins stream.now x.0 x.1.now) }
     ensures shorter { IfSome result (λ x. length x.1.now < length stream.now) }
 {
     match stream {

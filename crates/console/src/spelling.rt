@@ -1,44 +1,31 @@
+ghost use Rattle.std.specs.Prelude.{map, IfOk};
+ghost use Rattle.sheet.specs.Law.{call_of};
+ghost use Rattle.console.specs.Orders.{Spells};
+
 use crate::order::next_call;
-use sheet::call::{Call, Exchange};
+use sheet::call::Exchange;
 use std::alloc::{AllocError, Global};
 
-// The calls that a stream spells, none of them made yet, and whether its reading stopped at an order that is unknown or cut.
+// The calls that a stream spells, none of them made yet, and whether the reading stopped at an order that is unknown or cut.
 #[derive(Drop)]
 pub(crate) struct Spelled<'a> {
     pub(crate) exchanges: Vec<Exchange<'a>>,
     pub(crate) stopped: bool,
 }
 
-// A call that is not made yet.
-fn unmade(call: Call<'_>) -> Exchange<'_> {
-    Exchange { call, answer: None }
-}
-
-// Adds the calls of an order: a design order also reads what is decided.
-fn add<'a>(exchanges: &mut Vec<Exchange<'a>>, call: Call<'a>) -> Result<(), AllocError> {
-    exchanges.push(unmade(call))?;
-    if let Call::Design { place } = call {
-        exchanges.push(unmade(Call::Read { place }))?;
-    }
-    Ok(())
-}
-
-// The calls of a stream of orders.
-pub(crate) fn spell(heap: Global, stream: &[u8]) -> Result<Spelled<'_>, AllocError> {
+// The calls of a stream of orders, up to its end or to the first order that is unknown or cut.
+#[tactic(auto, using(crate::proofs::Stream::pushed, crate::proofs::Stream::rests))]
+pub(crate) fn spell(heap: Global, stream: &[u8]) -> Result<Spelled<'_>, AllocError>
+    ensures { IfOk result (λ spelled. Spells stream.now (map call_of spelled.exchanges.items) spelled.stopped) }
+{
     let mut exchanges = Vec::new(heap);
     let mut rest = stream;
-    while !rest.is_empty() {
-        let Some((call, after)) = next_call(rest) else {
-            return Ok(Spelled {
-                exchanges,
-                stopped: true,
-            });
-        };
-        add(&mut exchanges, call)?;
+    while let Some((call, after)) = next_call(rest) {
+        exchanges.push(Exchange { call, answer: None })?;
         rest = after;
     }
     Ok(Spelled {
         exchanges,
-        stopped: false,
+        stopped: !rest.is_empty(),
     })
 }
