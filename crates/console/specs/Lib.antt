@@ -1,4 +1,6 @@
 pub mod Letters
 pub mod Lines
 pub mod Orders
+pub mod Bills
+pub mod Billing
 pub mod Failures
