@@ -1,5 +1,5 @@
 -- How long a bill can get, and what one line more makes of it.
-use Rattle.std.proofs.Common.{◌≡◌, ℕ, zero, suc, ◌+◌, ◌*◌, ◌<◌, ◌≤◌, Bool, true, false, cond, List, [], ◌∷◌, ◌++◌, length, take, codes, decimal, nat_lt, Some, None, Ok, Err, Option, Result, sym, refl, ap, ◌∙◌, subst, arith, length-append, append-nil, add-one}
+use Rattle.std.proofs.Common.{◌≡◌, ℕ, zero, suc, ◌+◌, ◌*◌, ◌<◌, ◌≤◌, Bool, true, false, cond, List, [], ◌∷◌, ◌++◌, length, take, codes, decimal, nat_lt, Some, None, Ok, Err, Option, Result, sym, refl, ap, ◌∙◌, subst, arith, length-append, append-nil, add-one, ltb-false}
 use Rattle.std.proofs.lemmas.Fmt.{length-decimal-le}
 use Rattle.std.proofs.lemmas.Bool.Decides.{nat_tests}
 use Rattle.rebar.specs.declared.cage.Bars.{Bars}
@@ -151,6 +151,17 @@ roomy_enough page bs w e room h =
     no_cause : None ≡ Some e → ⊥
     no_cause e = cc
 
+-- bytes that are not refused have room
+roomy_there : (page bs : List ℕ) (w : ℕ) → short page w bs ≡ None → w + length bs ≤ length page
+roomy_there page bs w h = go (nat_lt (length page) (w + length bs)) refl
+  where
+    no_cause : Some PageShort ≡ None → ⊥
+    no_cause e = cc
+
+    go : (v : Bool) → nat_lt (length page) (w + length bs) ≡ v → w + length bs ≤ length page
+    go true e = absurd (no_cause (sym (ap (λ (v : Bool). cond v (Some PageShort) None) e) ∙ h))
+    go false e = ltb-false (length page) (w + length bs) e
+
 -- the bill on a page with room
 module _ (page page' : List ℕ) (shown : ℕ → Shown) (long : length page' ≡ length page) where
   pub begun_lines : (bill : Begun) → BeginsBill (Ok bill) page' → BegunAs page (Ok bill) page' → length page ≡ roomy → Billed shown 0 page' bill
@@ -161,17 +172,19 @@ module _ (page page' : List ℕ) (shown : ℕ → Shown) (long : length page' �
   pub begin_fits : (e : Refusal) → BegunAs page (Err e) page' → length page ≡ roomy → ⊥
   begin_fits e h room = roomy_enough page head_text 0 e (omega (arith, room)) h.0
 
-  pub ended_bill : (bill : Begun) (t : Totalled) → EndsBill bill page (Ok t) page' → Billed shown 64 page bill
-      → take t.written page' ≡ bill_text (lines_below shown 64)
+  pub ended_bill : (bill : Begun) (t : Totalled) → EndsBill bill page (Ok t) page' → TotalAs bill page (Ok t) page' → Billed shown 64 page bill
+      → (take t.written page' ≡ bill_text (lines_below shown 64)) × (t.written ≤ roomy)
   unfolding EndsBill
-  ended_bill bill t h b = (h (lines_below shown 64) b.lines).0
+  ended_bill bill t h a b =
+      let there = roomy_there page (total_text bill.lines bill.steel) bill.written a.0 in
+      ((h (lines_below shown 64) b.lines).0, omega (arith, a.1.1, there, b.room))
 
   pub total_fits : (bill : Begun) (e : Refused) → TotalAs bill page (Err e) page' → Billed shown 64 page bill → ⊥
   total_fits bill e h b = roomy_enough page (total_text bill.lines bill.steel) bill.written e.refusal (omega (arith, b.room, b.short, total_length bill)) h.0
 
 -- from all lines to the whole bill
 module _ (page : List ℕ) (shown : ℕ → Shown) (page' : List ℕ) where
-  pub written_bill : (n : ℕ) → (length page ≡ roomy → take n page' ≡ bill_text (lines_below shown 64)) → WritesBill page shown (Ok n) page'
+  pub written_bill : (n : ℕ) → (length page ≡ roomy → (take n page' ≡ bill_text (lines_below shown 64)) × (n ≤ roomy)) → WritesBill page shown (Ok n) page'
   unfolding WritesBill
   written_bill n h = h
 
@@ -186,3 +199,13 @@ module _ (page : List ℕ) (shown : ℕ → Shown) (page' : List ℕ) where
   pub lines_fail : (begun : Begun) (e : Refused) → AddsLines begun page shown (Err e) page' → Billed shown 0 page begun → ⊥
   unfolding AddsLines
   lines_fail begun e a = a
+
+-- a page with room takes the whole bill
+pub on_page : (page : List ℕ) (shown : ℕ → Shown) (n : ℕ) (page' : List ℕ) → WritesBill page shown (Ok n) page' → length page ≡ roomy
+    → (take n page' ≡ bill_text (lines_below shown 64)) × (n ≤ roomy)
+unfolding WritesBill
+on_page page shown n page' h = h
+
+pub no_refusal : (page : List ℕ) (shown : ℕ → Shown) (r : Result ℕ Failure) (e : Failure) (page' : List ℕ) → r ≡ Err e → WritesBill page shown r page' → length page ≡ roomy → ⊥
+unfolding WritesBill
+no_refusal page shown r e page' is h = subst (λ (v : Result ℕ Failure). WritesBill page shown v page') is h

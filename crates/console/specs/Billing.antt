@@ -31,5 +31,5 @@ AddsLines bill page shown (Err e) page' = Billed shown 0 page bill → ⊥
 
 -- the whole bill
 unfoldable pub WritesBill : List ℕ → (ℕ → Shown) → Result ℕ Failure → List ℕ → Type 0
-WritesBill page shown (Ok n) page' = length page ≡ roomy → take n page' ≡ bill_text (lines_below shown 64)
+WritesBill page shown (Ok n) page' = length page ≡ roomy → (take n page' ≡ bill_text (lines_below shown 64)) × (n ≤ roomy)
 WritesBill page shown (Err e) page' = length page ≡ roomy → ⊥

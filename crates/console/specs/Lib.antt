@@ -3,4 +3,5 @@ pub mod Lines
 pub mod Orders
 pub mod Bills
 pub mod Billing
+pub mod Printed
 pub mod Failures

@@ -1,5 +1,6 @@
 ghost use Rattle.std.specs.Prelude.{◌≡◌, ◌++◌, OnOk};
 ghost use Rattle.console.specs.Lines.{text_of, lines_text};
+ghost use Rattle.console.specs.Printed.{stop_text};
 
 use crate::line::{Line, head_of, outcome_of};
 use sheet::call::Exchange;
@@ -30,6 +31,16 @@ pub(crate) fn write_lines(
 {
     for exchange in exchanges {
         write_line(heap, exchange, out)?;
+    }
+    Ok(())
+}
+
+// Writes that the reading of a stream stopped, where it did.
+pub(crate) fn write_stop(stopped: bool, out: &mut Vec<u8>) -> Result<(), AllocError>
+    ensures { OnOk result (out.new.items ≡ out.old.items ++ stop_text stopped) }
+{
+    if stopped {
+        out.extend_from_slice(b"STOP\n")?;
     }
     Ok(())
 }

@@ -32,6 +32,6 @@ returns g c =
     let shown = shown_at c.args.sheet.now in
     let bill = c.in_ok-begun.begun in
     written_bill c.args.page.now shown c.total.new.page c.in_ok-totalled.totalled.written
-    (λ room. ended_bill c.add_lines.new.page c.total.new.page shown c.total.auto.page c.in_ok-lined.lined c.in_ok-totalled.totalled c.in_ok-totalled.ensures.whole_bill_of_its_lines
+    (λ room. ended_bill c.add_lines.new.page c.total.new.page shown c.total.auto.page c.in_ok-lined.lined c.in_ok-totalled.totalled c.in_ok-totalled.ensures.whole_bill_of_its_lines c.in_ok-totalled.ensures.total_on_the_page_or_handed_back
       (lines_on c.begin.new.page shown c.add_lines.new.page bill c.in_ok-lined.lined c.in_ok-lined.ensures
       (begun_lines c.args.page.now c.begin.new.page shown c.begin.auto.page bill c.in_ok-begun.ensures.bill_of_no_line c.in_ok-begun.ensures.head_on_the_page_or_refused room)))
