@@ -1,5 +1,5 @@
 -- How long a bill can get, and what one line more makes of it.
-use Rattle.std.proofs.Common.{◌≡◌, ℕ, zero, suc, ◌+◌, ◌*◌, ◌<◌, ◌≤◌, Bool, true, false, cond, List, [], ◌∷◌, ◌++◌, length, take, codes, decimal, nat_lt, Some, None, Ok, Err, Option, Result, sym, refl, ap, ◌∙◌, subst, arith, length-append, append-nil, add-one, ltb-false}
+use Rattle.std.proofs.Common.{◌≡◌, ℕ, ◌+◌, ◌<◌, ◌≤◌, Bool, true, false, cond, List, [], ◌∷◌, ◌++◌, length, take, codes, decimal, nat_lt, Some, None, Ok, Err, Result, sym, refl, ap, ◌∙◌, subst, arith, length-append, append-nil, add-one, ltb-false}
 use Rattle.std.proofs.lemmas.Fmt.{length-decimal-le}
 use Rattle.std.proofs.lemmas.Bool.Decides.{nat_tests}
 use Rattle.rebar.specs.declared.cage.Bars.{Bars}
@@ -7,7 +7,7 @@ use Rattle.rebar.specs.declared.cage.Ties.{Ties}
 use Rattle.search.specs.declared.decision.Choice.{Choice}
 use Rattle.sheet.specs.declared.reading.Reading.{Reading}
 use Rattle.sheet.specs.declared.reading.Shown.{Shown}
-use Rattle.sheet.specs.declared.reading.Shown.TheVariants.{Empty, Open, Chosen, Impossible}
+use Rattle.sheet.specs.declared.reading.Shown.TheVariants.{Chosen}
 use Rattle.bill.specs.Text.{two}
 use Rattle.bill.specs.Bill.{bars_text, ties_text, line_text, total_text, head_text}
 use Rattle.bill.specs.Steps.{short, why_line, Added, BegunAs, LineAs, TotalAs}
@@ -16,7 +16,7 @@ use Rattle.bill.specs.declared.bill.Begun.{Begun}
 use Rattle.bill.specs.declared.bill.Refused.{Refused}
 use Rattle.bill.specs.declared.bill.Totalled.{Totalled}
 use Rattle.bill.specs.declared.refusal.Refusal.{Refusal}
-use Rattle.bill.specs.declared.refusal.Refusal.TheVariants.{PageShort, Full}
+use Rattle.bill.specs.declared.refusal.Refusal.TheVariants.{PageShort}
 use Rattle.console.specs.Bills.{line_at, lines_below}
 use Rattle.console.specs.Billing.{roomy, Billed, AddsLine, AddsLines, WritesBill}
 use Rattle.console.specs.declared.failure.Failure.{Failure}
@@ -41,16 +41,17 @@ line_length place x =
     let t = bars_length x.cage.top in
     let s = ties_length x.cage.ties in
     let w = length-decimal-le 9 x.steel (omega arith) (omega (arith, x.light)) (omega (arith, x.light)) in
-    rw
-    (length-append (two place) (codes " B " ++ (bars_text x.cage.bottom ++ (codes " T " ++ (bars_text x.cage.top ++ (codes " S " ++ (ties_text x.cage.ties ++ (codes " " ++ (decimal x.steel ++ codes "\n")))))))),
-    length-append (codes " B ") (bars_text x.cage.bottom ++ (codes " T " ++ (bars_text x.cage.top ++ (codes " S " ++ (ties_text x.cage.ties ++ (codes " " ++ (decimal x.steel ++ codes "\n"))))))),
-    length-append (bars_text x.cage.bottom) (codes " T " ++ (bars_text x.cage.top ++ (codes " S " ++ (ties_text x.cage.ties ++ (codes " " ++ (decimal x.steel ++ codes "\n")))))),
-    length-append (codes " T ") (bars_text x.cage.top ++ (codes " S " ++ (ties_text x.cage.ties ++ (codes " " ++ (decimal x.steel ++ codes "\n"))))),
-    length-append (bars_text x.cage.top) (codes " S " ++ (ties_text x.cage.ties ++ (codes " " ++ (decimal x.steel ++ codes "\n")))),
-    length-append (codes " S ") (ties_text x.cage.ties ++ (codes " " ++ (decimal x.steel ++ codes "\n"))),
-    length-append (ties_text x.cage.ties) (codes " " ++ (decimal x.steel ++ codes "\n")),
-    length-append (codes " ") (decimal x.steel ++ codes "\n"),
-    length-append (decimal x.steel) (codes "\n"))
+    rw (
+      length-append (two place) (codes " B " ++ (bars_text x.cage.bottom ++ (codes " T " ++ (bars_text x.cage.top ++ (codes " S " ++ (ties_text x.cage.ties ++ (codes " " ++ (decimal x.steel ++ codes "\n")))))))),
+      length-append (codes " B ") (bars_text x.cage.bottom ++ (codes " T " ++ (bars_text x.cage.top ++ (codes " S " ++ (ties_text x.cage.ties ++ (codes " " ++ (decimal x.steel ++ codes "\n"))))))),
+      length-append (bars_text x.cage.bottom) (codes " T " ++ (bars_text x.cage.top ++ (codes " S " ++ (ties_text x.cage.ties ++ (codes " " ++ (decimal x.steel ++ codes "\n")))))),
+      length-append (codes " T ") (bars_text x.cage.top ++ (codes " S " ++ (ties_text x.cage.ties ++ (codes " " ++ (decimal x.steel ++ codes "\n"))))),
+      length-append (bars_text x.cage.top) (codes " S " ++ (ties_text x.cage.ties ++ (codes " " ++ (decimal x.steel ++ codes "\n")))),
+      length-append (codes " S ") (ties_text x.cage.ties ++ (codes " " ++ (decimal x.steel ++ codes "\n"))),
+      length-append (ties_text x.cage.ties) (codes " " ++ (decimal x.steel ++ codes "\n")),
+      length-append (codes " ") (decimal x.steel ++ codes "\n"),
+      length-append (decimal x.steel) (codes "\n"),
+    )
     (omega (arith, b, t, s, w))
 
 next_lines : (shown : ℕ → Shown) (n : ℕ) (s : Shown) → shown n ≡ s → lines_below shown (n + 1) ≡ lines_below shown n ++ line_at n s
@@ -62,7 +63,7 @@ unfolding AddsLine
 left_out bill page shown place s e none =
     λ small b.
     let same : lines_below shown (place + 1) ≡ lines_below shown place =
-      next_lines shown place s e ∙ ap (λ (l : List (ℕ × Choice)). lines_below shown place ++ l) none ∙ append-nil (lines_below shown place) in
+    next_lines shown place s e ∙ ap (λ (l : List (ℕ × Choice)). lines_below shown place ++ l) none ∙ append-nil (lines_below shown place) in
     record {
       lines = subst (λ (l : List (ℕ × Choice)). HasLines l page bill) (sym same) b.lines;
       few = omega (arith, b.few);
@@ -99,7 +100,7 @@ line_more bill page shown place reading x (Ok bill') page' long at is chosen l t
     let size = line_length reading.place x in
     record {
       lines = subst (λ (ls : List (ℕ × Choice)). HasLines ls page' bill')
-        (ap (λ (p : ℕ). lines_below shown place ++ (p, t.0) ∷ []) at ∙ sym (next_lines shown place (Chosen t.0) (sym is ∙ t.1.0))) t.1.1;
+          (ap (λ (p : ℕ). lines_below shown place ++ (p, t.0) ∷ []) at ∙ sym (next_lines shown place (Chosen t.0) (sym is ∙ t.1.0))) t.1.1;
       few = omega (arith, a.1, b.few);
       short = omega (arith, a.0, size, b.short);
       room = long ∙ b.room;
@@ -138,9 +139,12 @@ total_length : (b : Begun) → length (total_text b.lines b.steel) ≤ 22
 total_length b =
     let n = length-decimal-le 2 b.lines (omega arith) (omega (arith, b.few)) (omega (arith, b.few)) in
     let s = length-decimal-le 12 b.steel (omega arith) (omega (arith, b.few, b.light)) (omega (arith, b.few, b.light)) in
-    rw
-    (length-append (codes "TOTAL ") (decimal b.lines ++ (codes " " ++ (decimal b.steel ++ codes "\n"))), length-append (decimal b.lines) (codes " " ++ (decimal b.steel ++ codes "\n")),
-    length-append (codes " ") (decimal b.steel ++ codes "\n"), length-append (decimal b.steel) (codes "\n"))
+    rw (
+      length-append (codes "TOTAL ") (decimal b.lines ++ (codes " " ++ (decimal b.steel ++ codes "\n"))),
+      length-append (decimal b.lines) (codes " " ++ (decimal b.steel ++ codes "\n")),
+      length-append (codes " ") (decimal b.steel ++ codes "\n"),
+      length-append (decimal b.steel) (codes "\n"),
+    )
     (omega (arith, n, s))
 
 -- bytes that the page has room for are not refused

@@ -1,11 +1,10 @@
 -- What the writing of a bill keeps. A reader of the public contracts needs none of this.
-use Rattle.std.specs.Prelude.{◌≡◌, ℕ, ◌+◌, ◌*◌, ◌<◌, ◌≤◌, List, [], ◌++◌, length, take, Ok, Err, Result}
-use Rattle.search.specs.declared.decision.Choice.{Choice}
+use Rattle.std.specs.Prelude.{◌≡◌, ℕ, ◌+◌, ◌*◌, ◌<◌, ◌≤◌, List, length, take, Ok, Err, Result}
 use Rattle.sheet.specs.declared.reading.Shown.{Shown}
 use Rattle.bill.specs.Whole.{HasLines, bill_text}
 use Rattle.bill.specs.declared.bill.Begun.{Begun}
 use Rattle.bill.specs.declared.bill.Refused.{Refused}
-use Rattle.console.specs.Bills.{line_at, lines_below}
+use Rattle.console.specs.Bills.{lines_below}
 use Rattle.console.specs.declared.failure.Failure.{Failure}
 
 -- the length of a page on which every bill of 64 places fits: a head of 6 bytes, lines of 38 at most, and a total of 22

@@ -1,5 +1,5 @@
 -- The lines that the console writes of orders.
-use Rattle.std.specs.Prelude.{ℕ, List, [], ◌++◌, codes, decimal, Some, None, Ok, Err, Option, Result, option_map, flat_map}
+use Rattle.std.specs.Prelude.{ℕ, List, [], ◌++◌, codes, decimal, Some, None, Ok, Err, Option, Result, flat_map}
 use Rattle.std.proofs.Math.Utf8.{encode}
 use Rattle.sheet.specs.declared.call.Answer.{Answer}
 use Rattle.sheet.specs.declared.call.Answer.TheVariants as answer
@@ -10,7 +10,6 @@ use Rattle.sheet.specs.declared.reading.Shown.{Shown}
 use Rattle.sheet.specs.declared.reading.Shown.TheVariants as shown
 use Rattle.sheet.specs.declared.refusal.Refusal.{Refusal}
 use Rattle.sheet.specs.Refusals.{refusal_number, byte_place}
-use Rattle.console.specs.declared.line.Line.{Line}
 use Rattle.console.specs.declared.line.Outcome.{Outcome}
 use Rattle.console.specs.declared.line.Outcome.TheVariants.{Done, Cage, NoCage}
 use Rattle.console.specs.Letters.{enter_letter, correct_letter, strike_letter, stock_letter, design_letter}

@@ -1,7 +1,5 @@
-use Rattle.std.proofs.Common.{◌≡◌, ◌≤◌, ◌++◌, ℕ, List, length, take, replicate, refl, sym, ap, ◌∙◌, arith, length-take}
-use Rattle.bill.specs.Whole.{bill_text}
+use Rattle.std.proofs.Common.{◌++◌, ℕ, List, replicate, refl, ap, ◌∙◌, arith, length-take}
 use Rattle.sheet.specs.Shown.{shown_at}
-use Rattle.console.specs.Bills.{lines_below}
 use Rattle.console.proofs.Room.{on_page}
 use Rattle.console.proofs.billing.append_bill.Goals as goal
 

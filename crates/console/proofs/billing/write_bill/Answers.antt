@@ -16,7 +16,7 @@ returns-in_err-lined g c =
     let bill = c.in_ok-begun.begun in
     never_stops c.args.page.now shown c.add_lines.new.page c.from_residual-in_err-lined.result (Bill c.in_err-lined.field-0.0.refusal) (search rules)
     (λ room. lines_fail c.begin.new.page shown c.add_lines.new.page bill c.in_err-lined.field-0.0 c.in_err-lined.ensures
-      (begun_lines c.args.page.now c.begin.new.page shown c.begin.auto.page bill c.in_ok-begun.ensures.bill_of_no_line c.in_ok-begun.ensures.head_on_the_page_or_refused room))
+    (begun_lines c.args.page.now c.begin.new.page shown c.begin.auto.page bill c.in_ok-begun.ensures.bill_of_no_line c.in_ok-begun.ensures.head_on_the_page_or_refused room))
 
 pub returns-in_err-totalled : goal.returns-in_err-totalled
 returns-in_err-totalled g c =
@@ -24,8 +24,8 @@ returns-in_err-totalled g c =
     let bill = c.in_ok-begun.begun in
     never_stops c.args.page.now shown c.total.new.page c.from_residual-in_err-totalled.result (Bill c.in_err-totalled.field-0.0.refusal) (search rules)
     (λ room. total_fits c.add_lines.new.page c.total.new.page shown c.total.auto.page c.in_ok-lined.lined c.in_err-totalled.field-0.0 c.in_err-totalled.ensures.total_on_the_page_or_handed_back
-      (lines_on c.begin.new.page shown c.add_lines.new.page bill c.in_ok-lined.lined c.in_ok-lined.ensures
-      (begun_lines c.args.page.now c.begin.new.page shown c.begin.auto.page bill c.in_ok-begun.ensures.bill_of_no_line c.in_ok-begun.ensures.head_on_the_page_or_refused room)))
+    (lines_on c.begin.new.page shown c.add_lines.new.page bill c.in_ok-lined.lined c.in_ok-lined.ensures
+    (begun_lines c.args.page.now c.begin.new.page shown c.begin.auto.page bill c.in_ok-begun.ensures.bill_of_no_line c.in_ok-begun.ensures.head_on_the_page_or_refused room)))
 
 pub returns : goal.returns
 returns g c =
@@ -33,5 +33,5 @@ returns g c =
     let bill = c.in_ok-begun.begun in
     written_bill c.args.page.now shown c.total.new.page c.in_ok-totalled.totalled.written
     (λ room. ended_bill c.add_lines.new.page c.total.new.page shown c.total.auto.page c.in_ok-lined.lined c.in_ok-totalled.totalled c.in_ok-totalled.ensures.whole_bill_of_its_lines c.in_ok-totalled.ensures.total_on_the_page_or_handed_back
-      (lines_on c.begin.new.page shown c.add_lines.new.page bill c.in_ok-lined.lined c.in_ok-lined.ensures
-      (begun_lines c.args.page.now c.begin.new.page shown c.begin.auto.page bill c.in_ok-begun.ensures.bill_of_no_line c.in_ok-begun.ensures.head_on_the_page_or_refused room)))
+    (lines_on c.begin.new.page shown c.add_lines.new.page bill c.in_ok-lined.lined c.in_ok-lined.ensures
+    (begun_lines c.args.page.now c.begin.new.page shown c.begin.auto.page bill c.in_ok-begun.ensures.bill_of_no_line c.in_ok-begun.ensures.head_on_the_page_or_refused room)))
