@@ -1,2 +1,7 @@
-pub mod Transcript
+pub mod Letters
+pub mod Lines
+pub mod Orders
+pub mod Bills
+pub mod Billing
+pub mod Printed
 pub mod Failures

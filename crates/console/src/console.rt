@@ -1,77 +1,31 @@
-use crate::billing::write_bill;
+ghost use Rattle.std.specs.Prelude.{◌≡◌, IfOk, IfErr};
+ghost use Rattle.console.specs.Printed.{IsPrinted, EndsWithLightest};
+ghost use Rattle.console.specs.declared.failure.Failure.TheVariants.{NoMemory};
+
+use crate::billing::append_bill;
 use crate::failure::Failure;
-use crate::order::{Order, next_order};
-use crate::transcript::{Line, Outcome};
+use crate::spelling::spell;
+use crate::transcript::{write_lines, write_stop};
 use books::book::Book;
-use books::frame::Frame;
-use books::general::General;
-use sheet::reading::Shown;
-use sheet::refusal::Refusal;
-use sheet::sheet::Sheet;
-use std::alloc::{AllocError, Global};
+use sheet::run::run;
+use std::alloc::Global;
 
-// The greatest length of a bill: its head, 64 lines of at most 38 bytes, and the total.
-const PAGE: usize = 2459;
-
-// Designs the beam at a place, and reads what was decided.
-fn design<P: Book>(sheet: &mut Sheet<P>, place: u8) -> Result<Outcome, Refusal> {
-    sheet.design(place)?;
-    Ok(match sheet.read(place)?.shown {
-        Shown::Chosen(_) => Outcome::Cage,
-        Shown::Impossible(article) => Outcome::NoCage(article),
-        Shown::Empty | Shown::Open => Outcome::Done,
-    })
-}
-
-// Carries out one order, and gives its line.
-fn carry_out<P: Book>(sheet: &mut Sheet<P>, order: Order) -> Line {
-    match order {
-        Order::Stock { kind, mark, is_in } => Line {
-            letter: 'S',
-            number: mark,
-            outcome: sheet.stock(kind, mark, is_in).map(|()| Outcome::Done),
-        },
-        Order::Enter { place, card } => Line {
-            letter: 'E',
-            number: place,
-            outcome: sheet.enter(place, card).map(|()| Outcome::Done),
-        },
-        Order::Design { place } => Line {
-            letter: 'D',
-            number: place,
-            outcome: design(sheet, place),
-        },
-    }
-}
-
-// Carries out the orders of a stream up to its end or to the first that is unknown or cut.
-fn carry_out_all<P: Book>(
+// The answer to a stream of orders to a sheet on a pile of article books: a line for each order, then the bill of the chosen
+// places.
+pub fn answer_orders<P: Book + Drop>(
     heap: Global,
-    sheet: &mut Sheet<P>,
+    pile: P,
     stream: &[u8],
-    out: &mut Vec<u8>,
-) -> Result<(), AllocError> {
-    let mut rest = stream;
-    while !rest.is_empty() {
-        let Some((order, after)) = next_order(rest) else {
-            return out.extend_from_slice(b"STOP\n");
-        };
-        let line = carry_out(sheet, order).to_string(heap)?;
-        out.extend_from_slice(line.as_bytes())?;
-        rest = after;
-    }
-    Ok(())
-}
-
-// The answer to a stream of orders, on the frame layer over the general book: a line for each order,
-// then the bill of the chosen places.
-pub fn answer_orders(heap: Global, stream: &[u8]) -> Result<Vec<u8>, Failure> {
-    let mut sheet = Sheet::open(Frame { below: General });
+) -> Result<Vec<u8>, Failure>
+    ensures lines_and_bill { IfOk result (λ out. IsPrinted (P.Book.answer pile) stream.now out.items) }
+    ensures printed_cages_are_sound_and_lightest { IfOk result (λ out. EndsWithLightest (P.Book.answer pile) stream.now out.items) }
+    ensures only_want_of_memory { IfErr result (λ failure. failure ≡ NoMemory) }
+{
+    let mut spelled = spell(heap, stream)?;
+    let sheet = run(pile, spelled.exchanges.as_mut_slice());
     let mut out = Vec::new(heap);
-    carry_out_all(heap, &mut sheet, stream, &mut out)?;
-    let mut page = vec![in heap; 0u8; PAGE]?;
-    let written = write_bill(page.as_mut_slice(), &sheet)?;
-    page.truncate(written);
-    out.extend_from_slice(page.as_slice())?;
+    write_lines(heap, spelled.exchanges.as_slice(), &mut out)?;
+    write_stop(spelled.stopped, &mut out)?;
+    append_bill(&sheet, &mut out)?;
     Ok(out)
 }

@@ -1,37 +1,45 @@
-ghost use Rattle.std.specs.Prelude.{◌<◌, length, IfSome};
+ghost use Rattle.std.specs.Prelude.{◌<◌, length, IfSome, MatchOption};
+ghost use Rattle.console.specs.Orders.{Begins, NoOrder};
 
-// An order of a stream. Its numbers are the stream's bytes, whatever they are.
-#[derive(Clone, Copy)]
-pub(crate) enum Order<'a> {
-    Stock { kind: u8, mark: u8, is_in: bool },
-    Enter { place: u8, card: &'a [u8] },
-    Design { place: u8 },
-}
+use sheet::call::Call;
 
-// The first order of a stream and what follows it; none where the letter is unknown or the order is cut.
-pub(crate) fn next_order(stream: &[u8]) -> Option<(Order<'_>, &[u8])>
+// The call of the first order of a stream, and what follows the order; none where the letter is unknown or the order is cut.
+// The numbers of the call are the stream's bytes, whatever they are.
+pub(crate) fn next_call(stream: &[u8]) -> Option<(Call<'_>, &[u8])>
+    ensures first_order { MatchOption result (NoOrder stream.now) (λ x. Begins stream.now x.0 x.1.now) }
     ensures shorter { IfSome result (λ x. length x.1.now < length stream.now) }
 {
     match stream {
         [b'S', kind, mark, value, rest @ ..] => {
-            let order = Order::Stock {
+            let call = Call::Stock {
                 kind: *kind,
                 mark: *mark,
                 is_in: *value != 0,
             };
-            Some((order, rest))
+            Some((call, rest))
         }
         [b'E', place, bytes, rest @ ..] => {
             let (card, rest) = rest.split_at_checked(*bytes as usize)?;
             Some((
-                Order::Enter {
+                Call::Enter {
                     place: *place,
                     card,
                 },
                 rest,
             ))
         }
-        [b'D', place, rest @ ..] => Some((Order::Design { place: *place }, rest)),
+        [b'K', place, bytes, rest @ ..] => {
+            let (card, rest) = rest.split_at_checked(*bytes as usize)?;
+            Some((
+                Call::Correct {
+                    place: *place,
+                    card,
+                },
+                rest,
+            ))
+        }
+        [b'X', place, rest @ ..] => Some((Call::Strike { place: *place }, rest)),
+        [b'D', place, rest @ ..] => Some((Call::Design { place: *place }, rest)),
         _ => None,
     }
 }

@@ -1,40 +1,46 @@
-ghost use Rattle.std.specs.Prelude.{Some};
-ghost use Rattle.console.specs.Transcript.{line_text};
+ghost use Rattle.std.specs.Prelude.{◌≡◌, ◌++◌, OnOk};
+ghost use Rattle.console.specs.Lines.{text_of, lines_text};
+ghost use Rattle.console.specs.Printed.{stop_text};
 
-use sheet::refusal::Refusal;
-use std::fmt;
+use crate::line::{Line, head_of, outcome_of};
+use sheet::call::Exchange;
+use std::alloc::{AllocError, Global};
 
-// What became of an order that was not refused.
-#[derive(Clone, Copy, Debug, PartialEq, Eq)]
-pub(crate) enum Outcome {
-    Done,
-    Cage,
-    NoCage(u8),
-}
-
-// The line of an order: its letter, its place or mark, and what became of it.
-#[derive(Clone, Copy)]
-pub(crate) struct Line {
-    pub(crate) letter: char,
-    pub(crate) number: u8,
-    pub(crate) outcome: Result<Outcome, Refusal>,
-}
-
-impl fmt::Display for Line {
-    ghost output = { λ line. Some (line_text line.letter line.number line.outcome) };
-
-    fn fmt<W: fmt::Write>(&self, f: &mut fmt::Formatter<W>) -> fmt::Result {
-        let letter = self.letter;
-        let number = self.number;
-        match self.outcome {
-            Ok(Outcome::Done) => writeln!(f, "{letter} {number} OK"),
-            Ok(Outcome::Cage) => writeln!(f, "{letter} {number} CAGE"),
-            Ok(Outcome::NoCage(article)) => writeln!(f, "{letter} {number} NONE {article}"),
-            Err(refusal) => {
-                let why = u8::from(refusal);
-                let place = refusal.byte_place();
-                writeln!(f, "{letter} {number} REFUSED {why} {place}")
-            }
-        }
+// Writes the line of a call that was made, where an order spells it.
+fn write_line(heap: Global, exchange: &Exchange, out: &mut Vec<u8>) -> Result<(), AllocError>
+    ensures { OnOk result (out.new.items ≡ out.old.items ++ text_of exchange.now) }
+{
+    if let (Some((letter, number)), Some(answer)) = (head_of(&exchange.call), exchange.answer) {
+        let line = Line {
+            letter,
+            number,
+            outcome: outcome_of(answer),
+        };
+        out.extend_from_slice(line.to_string(heap)?.as_bytes())?;
     }
+    Ok(())
+}
+
+// Writes the lines of the orders of a stream.
+pub(crate) fn write_lines(
+    heap: Global,
+    exchanges: &[Exchange],
+    out: &mut Vec<u8>,
+) -> Result<(), AllocError>
+    ensures { OnOk result (out.new.items ≡ out.old.items ++ lines_text exchanges.now) }
+{
+    for exchange in exchanges {
+        write_line(heap, exchange, out)?;
+    }
+    Ok(())
+}
+
+// Writes that the reading of a stream stopped, where it did.
+pub(crate) fn write_stop(stopped: bool, out: &mut Vec<u8>) -> Result<(), AllocError>
+    ensures { OnOk result (out.new.items ≡ out.old.items ++ stop_text stopped) }
+{
+    if stopped {
+        out.extend_from_slice(b"STOP\n")?;
+    }
+    Ok(())
 }

@@ -1,0 +1,7 @@
+pub mod Marks
+pub mod Takes
+pub mod StockAfter
+pub mod Kept
+pub mod Runs
+pub mod Answering
+pub mod Running

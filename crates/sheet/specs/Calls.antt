@@ -1,19 +1,24 @@
--- What each call answers, and the table after it.
-use Rattle.std.specs.Prelude.{◌≡◌, ℕ, ◌<◌, ◌≤◌, Bool, true, false, cond, List, replicate, Some, None, Ok, Err, Option, Result, ◌≢◌, nat_lt}
+-- When a call is refused, and what it does to the table of a sheet when it is not.
+use Rattle.std.specs.Prelude.{◌≡◌, ℕ, ◌<◌, ◌≤◌, Bool, false, cond, ◌&&◌, ◌||◌, List, replicate, Some, None, Ok, Err, Option, Result, is_some, nat_lt, ◌==◌}
 use Rattle.rebar.specs.declared.beam.Beam.{Beam}
 use Rattle.rebar.specs.declared.cage.Cage.{Cage}
 use Rattle.card.specs.declared.fault.Fault.{Fault}
 use Rattle.card.specs.Card.{card_fault, CardAs}
 use Rattle.stock.specs.declared.kind.Kind.{Kind}
+use Rattle.stock.specs.declared.kind.Kind.TheVariants.{Main, Tie}
 use Rattle.search.specs.declared.decision.Decision.{Decision}
 use Rattle.stock.specs.Kinds.{kind_number, known}
 use Rattle.stock.specs.Stock.{has, offers_cages}
 use Rattle.search.specs.Lightest.{Lightest}
+use Rattle.sheet.specs.declared.call.Answer.{Answer}
+use Rattle.sheet.specs.declared.call.Answer.TheVariants as answer
+use Rattle.sheet.specs.declared.call.Call.{Call}
+use Rattle.sheet.specs.declared.call.Call.TheVariants.{Enter, Correct, Strike, Stock, Design, Read, Count}
 use Rattle.sheet.specs.declared.reading.Reading.{Reading}
 use Rattle.sheet.specs.declared.refusal.Refusal.{Refusal}
 use Rattle.sheet.specs.declared.refusal.Refusal.TheVariants.{NoSuchPlace, PlaceTaken, PlaceEmpty, Card, NoSuchMark, NothingInStock}
 use Rattle.sheet.specs.declared.table.Table.{Table}
-use Rattle.sheet.specs.Places.{is_empty, beam_of, opened, shown_of}
+use Rattle.sheet.specs.Places.{beam_of, opened, shown_of}
 use Rattle.sheet.specs.Table.{place_at, with_place, restocked, settled}
 
 -- a new sheet: every place empty, no mark in stock, nothing counted
@@ -29,34 +34,68 @@ abbrev pub refusal_of : Option Fault → Option Refusal
 refusal_of None = None
 refusal_of (Some fault) = Some (Card fault)
 
--- why a card is not entered: no such place, a taken one, or the card's own fault
-abbrev pub why_enter : ℕ → List ℕ → Table → Option Refusal
-why_enter p card t =
-    cond (nat_lt 63 p) (Some NoSuchPlace) (cond (is_empty (place_at t p)) (refusal_of (card_fault card)) (Some PlaceTaken))
+-- no such place, or what is said where there is one
+abbrev pub at_place : ℕ → Option Refusal → Option Refusal
+at_place p else = cond (nat_lt 63 p) (Some NoSuchPlace) else
 
--- the card's beam is open at the place; or nothing has changed
-abbrev pub Enters : ℕ → List ℕ → Table → Result Unit Refusal → Table → Type 0
-Enters p card t (Ok _) t' = (why_enter p card t ≡ None) × ((b : Beam) × (CardAs card (Ok b) × (t' ≡ with_place t p (opened b))))
-Enters p card t (Err e) t' = (why_enter p card t ≡ Some e) × (t' ≡ t)
+-- whether the yard knows a mark in the kind with this number
+abbrev pub is_known : ℕ → ℕ → Bool
+is_known number mark = (number == 0 && known Main mark) || (number == 1 && known Tie mark)
 
--- the mark is known in the kind of that number, and set; or it is known in none, and nothing has changed
-abbrev pub Stocks : ℕ → ℕ → Bool → Table → Result Unit Refusal → Table → Type 0
-Stocks number mark is-in t (Ok _) t' = (k : Kind) × ((number ≡ kind_number k) × (known k mark ≡ true) × (t' ≡ restocked k mark is-in t))
-Stocks number mark is-in t (Err e) t' =
-    (e ≡ NoSuchMark) × ((k : Kind) → kind_number k ≡ number → known k mark ≢ true) × (t' ≡ t)
+-- why a call is refused, none where it is not: `holds` says which places hold a beam, and `stocked` whether some main mark and
+-- some tie mark is in
+abbrev pub why_refused : (ℕ → Bool) → Bool → Call → Option Refusal
+why_refused holds stocked (Enter p card) = at_place p (cond (holds p) (Some PlaceTaken) (refusal_of (card_fault card.now)))
+why_refused holds stocked (Correct p card) = at_place p (cond (holds p) (refusal_of (card_fault card.now)) (Some PlaceEmpty))
+why_refused holds stocked (Strike p) = at_place p (cond (holds p) None (Some PlaceEmpty))
+why_refused holds stocked (Stock kind mark is-in) = cond (is_known kind mark) None (Some NoSuchMark)
+why_refused holds stocked (Design p) = at_place p (cond (holds p) (cond stocked None (Some NothingInStock)) (Some PlaceEmpty))
+why_refused holds stocked (Read p) = at_place p None
+why_refused holds stocked Count = None
 
--- why a place is not designed: no such place, an empty one, or no main or no tie mark in stock
-abbrev pub why_design : ℕ → Table → Option Refusal
-why_design p t =
-    cond (nat_lt 63 p) (Some NoSuchPlace)
-    (cond (is_empty (place_at t p)) (Some PlaceEmpty) (cond (offers_cages t.stock) None (Some NothingInStock)))
+-- the same, of the table of a sheet
+abbrev pub why : Table → Call → Option Refusal
+why t = why_refused (λ p. is_some (place_at t p)) (offers_cages t.stock)
 
--- the lightest cage from stock for the beam there is stored, or that there is none; or nothing has changed
-abbrev pub Designs : (Beam → Cage → ℕ) → ℕ → Table → Result Unit Refusal → Table → Type 0
-Designs answer p t (Ok _) t' =
-    (why_design p t ≡ None)
-    × ((b : Beam) × ((d : Decision) × ((beam_of (place_at t p) ≡ Some b) × Lightest answer (has t.stock) b d × (t' ≡ settled p b d t))))
-Designs answer p t (Err e) t' = (why_design p t ≡ Some e) × (t' ≡ t)
+-- the table with the beam of a card at a place, open
+abbrev pub Takes : ℕ → List ℕ → Table → Table → Type 0
+Takes p card t t' = (b : Beam) × (CardAs card (Ok b) × (t' ≡ with_place t p (Some (opened b))))
+
+-- the same, or the card's fault, and nothing has changed
+abbrev pub TakesOrRefuses : ℕ → List ℕ → Table → Result Unit Refusal → Table → Type 0
+TakesOrRefuses p card t (Ok _) t' = (card_fault card ≡ None) × Takes p card t t'
+TakesOrRefuses p card t (Err e) t' = (refusal_of (card_fault card) ≡ Some e) × (t' ≡ t)
+
+-- the table after a call that is not refused: a card's beam is open at its place, the place is emptied, the mark of the kind
+-- with this number is set, or the lightest cage from stock is stored, or that there is none; reading and counting change nothing
+abbrev pub Does : (Beam → Cage → ℕ) → Table → Call → Table → Type 0
+Does answer t (Enter p card) t' = Takes p card.now t t'
+Does answer t (Correct p card) t' = Takes p card.now t t'
+Does answer t (Strike p) t' = t' ≡ with_place t p None
+Does answer t (Stock kind mark is-in) t' = (k : Kind) × ((kind ≡ kind_number k) × (t' ≡ restocked k mark is-in t))
+Does answer t (Design p) t' =
+    (b : Beam) × ((d : Decision) × ((beam_of (place_at t p) ≡ Some b) × Lightest answer (has t.stock) b d × (t' ≡ settled p b d t)))
+Does answer t (Read p) t' = t' ≡ t
+Does answer t Count t' = t' ≡ t
+
+-- a call is refused, and nothing has changed; or it is done
+abbrev pub Makes : (Beam → Cage → ℕ) → Table → Call → Option Refusal → Table → Type 0
+Makes answer t call (Some e) t' = (why t call ≡ Some e) × (t' ≡ t)
+Makes answer t call None t' = (why t call ≡ None) × Does answer t call t'
+
+-- the refusal of a call, none where it is not refused
+abbrev pub refusal : {A : Type 0} → Result A Refusal → Option Refusal
+refusal (Ok x) = None
+refusal (Err e) = Some e
+
+-- the answer to a call that only changes the sheet, to one that reads, and to one that counts
+abbrev pub done : Result Unit Refusal → Result Answer Refusal
+done (Ok x) = Ok answer.Done
+done (Err e) = Err e
+
+abbrev pub shows : Result Reading Refusal → Result Answer Refusal
+shows (Ok reading) = Ok (answer.Shows reading)
+shows (Err e) = Err e
 
 -- what the place shows, or that there is no such place
 abbrev pub Reads : ℕ → Table → Result Reading Refusal → Type 0

@@ -1,5 +1,5 @@
 -- What a place holds and shows, and what becomes of it when a mark comes in or goes out.
-use Rattle.std.specs.Prelude.{ℕ, Bool, true, false, cond, ◌||◌, Some, None, Option, ◌==◌}
+use Rattle.std.specs.Prelude.{ℕ, Bool, true, cond, ◌||◌, Some, None, Option, ◌==◌}
 use Rattle.rebar.specs.declared.beam.Beam.{Beam}
 use Rattle.rebar.specs.declared.cage.Cage.{Cage}
 use Rattle.stock.specs.declared.kind.Kind.{Kind}
@@ -10,11 +10,7 @@ use Rattle.sheet.specs.declared.entry.Entry.{Entry}
 use Rattle.sheet.specs.declared.reading.Shown.{Shown}
 use Rattle.sheet.specs.declared.reading.Shown.TheVariants as shown
 
--- a place holds nothing, or a beam that is open or decided
-abbrev pub is_empty : Option Entry → Bool
-is_empty None = true
-is_empty (Some e) = false
-
+-- the beam at a place
 abbrev pub beam_of : Option Entry → Option Beam
 beam_of None = None
 beam_of (Some e) = Some e.beam

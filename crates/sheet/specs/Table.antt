@@ -13,9 +13,9 @@ use Rattle.sheet.specs.Places.{decided, place_reopened}
 abbrev pub place_at : Table → ℕ → Option Entry
 place_at t p = slice_index_or t.places p None
 
--- a beam put at one place
-abbrev pub with_place : Table → ℕ → Entry → Table
-with_place t p x = record { places = slice_set t.places p (Some x); stock = t.stock; count = t.count }
+-- a place with another beam, or emptied
+abbrev pub with_place : Table → ℕ → Option Entry → Table
+with_place t p x = record { places = slice_set t.places p x; stock = t.stock; count = t.count }
 
 -- a mark of a kind set in or out; set as it was, it alters nothing
 abbrev pub restocked : Kind → ℕ → Bool → Table → Table

@@ -1,10 +1,13 @@
 ghost use Rattle.std.specs.Prelude.{◌≡◌, map};
+ghost use Rattle.sheet.specs.Calls.{TakesOrRefuses};
 ghost use Rattle.sheet.specs.Places.{place_reopened};
 ghost use Rattle.sheet.specs.Table.{place_at, with_place, restocked, settled};
 
 use crate::change::Change;
 use crate::entry::Entry;
 use crate::place::Place;
+use crate::refusal::Refusal;
+use card::reader::read_card;
 use rebar::beam::Beam;
 use search::decision::Decision;
 use stock::stock::Stock;
@@ -41,11 +44,20 @@ impl Table {
         self.places[place.number as usize]
     }
 
-    // Puts a beam at a place.
-    pub(crate) fn put(&mut self, place: Place, entry: Entry)
-        ensures { self.new ≡ with_place self.old place.number entry }
+    // Puts a beam at a place, or empties it.
+    pub(crate) fn put(&mut self, place: Place, held: Option<Entry>)
+        ensures { self.new ≡ with_place self.old place.number held }
     {
-        self.places[place.number as usize] = Some(entry);
+        self.places[place.number as usize] = held;
+    }
+
+    // Puts the beam of a card at a place, open, where the card has no fault.
+    pub(crate) fn take(&mut self, place: Place, card: &[u8]) -> Result<(), Refusal>
+        ensures { TakesOrRefuses place.number card.now self.old result self.new }
+    {
+        let beam = read_card(card)?;
+        self.put(place, Some(Entry::open(beam)));
+        Ok(())
     }
 
     // Sets a mark in or out.
@@ -65,10 +77,10 @@ impl Table {
     {
         self.put(
             place,
-            Entry {
+            Some(Entry {
                 beam,
                 decision: Some(decision),
-            },
+            }),
         );
         self.count = self.count.saturating_add(1);
     }

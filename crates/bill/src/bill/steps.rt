@@ -1,5 +1,6 @@
 ghost use Rattle.std.specs.Prelude.{◌≡◌};
 ghost use Rattle.bill.specs.Steps.{BegunAs, LineAs, TotalAs};
+ghost use Rattle.bill.specs.Whole.{BeginsBill, TakesLine, EndsBill};
 
 use crate::bill::{Begun, Refused, Totalled};
 use crate::page::append;
@@ -9,8 +10,10 @@ use sheet::reading::{Reading, Shown};
 
 impl Begun {
     // Begins a bill at the front of the page.
+    #[tactic(auto, using(crate::proofs::Pages::begins))]
     pub fn begin(page: &mut [u8]) -> Result<Begun, Refusal>
         ensures head_on_the_page_or_refused { BegunAs page.old result page.new }
+        ensures bill_of_no_line { BeginsBill result page.new }
     {
         let written = append(page, 0, b"CAGES\n")?;
         Ok(Begun {
@@ -32,8 +35,10 @@ impl Begun {
     }
 
     // One line more, for a place that shows a chosen cage.
+    #[tactic(auto, using(crate::proofs::Pages::takes_line))]
     pub fn line(self, page: &mut [u8], reading: &Reading) -> Result<Begun, Refused>
         ensures line_on_the_page_or_handed_back { LineAs self page.old reading.now result page.new }
+        ensures bill_of_one_line_more { TakesLine self page.old reading.now result page.new }
     {
         let Shown::Chosen(choice) = &reading.shown else {
             return Err(self.refused(Refusal::NotChosen));
@@ -60,8 +65,10 @@ impl Begun {
     }
 
     // The last line: how many cages, and their steel together.
+    #[tactic(auto, using(crate::proofs::Pages::ends))]
     pub fn total(self, page: &mut [u8]) -> Result<Totalled, Refused>
         ensures total_on_the_page_or_handed_back { TotalAs self page.old result page.new }
+        ensures whole_bill_of_its_lines { EndsBill self page.old result page.new }
     {
         let line = total_of(self.lines, self.steel);
         match append(page, self.written, line.as_str().as_bytes()) {

@@ -1,6 +1,9 @@
-use Rattle.std.proofs.Common.{rules}
+use Rattle.std.proofs.Common.{rules, Some}
+use Rattle.sheet.specs.declared.call.Call.TheVariants as call
+use Rattle.sheet.specs.declared.refusal.Refusal.TheVariants.{PlaceTaken}
+use Rattle.sheet.proofs.Runs.{grows}
 use Rattle.sheet.proofs.sheet.Sheet.enter.Goals as goal
 
-pub returns-clause-beam_open_or_nothing_changed : goal.returns-clause-beam_open_or_nothing_changed
-returns-clause-beam_open_or_nothing_changed g c =
-    (search rules, (c.in_ok-beam.beam, (c.in_ok-beam.ensures.beam_or_fault, search rules)))
+pub returns-then-is_some-clause-history_grows_by_this_call : goal.returns-then-is_some-clause-history_grows_by_this_call
+returns-then-is_some-clause-history_grows_by_this_call g c =
+    grows (g.P.Book.answer c.args.self.now.pile) c.args.self.now.table (call.Enter c.args.place c.args.card) (Some PlaceTaken) c.args.self.now.table (search rules)

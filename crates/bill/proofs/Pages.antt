@@ -1,0 +1,80 @@
+-- What stands at the front of a page after each call of a bill.
+use Rattle.std.proofs.Common.{◌≡◌, ℕ, ◌+◌, List, [], ◌∷◌, ◌++◌, length, take, drop, Ok, Err, Result, sym, refl, ap, ◌∙◌, arith, length-append, append_assoc, append-nil}
+use Rattle.std.proofs.Math.Seq.{take-append_seam, take-append-add}
+use Rattle.std.proofs.lemmas.Grind.{flat_map-append}
+use Rattle.std.proofs.lemmas.List.Sums.{sum_by-append}
+use Rattle.search.specs.declared.decision.Choice.{Choice}
+use Rattle.sheet.specs.declared.reading.Reading.{Reading}
+use Rattle.sheet.specs.declared.reading.Shown.{Shown}
+use Rattle.sheet.specs.declared.reading.Shown.TheVariants.{Empty, Open, Chosen, Impossible}
+use Rattle.bill.specs.Text.{put}
+use Rattle.bill.specs.Bill.{line_text, total_text, head_text}
+use Rattle.bill.specs.Steps.{Puts, Added, BegunAs, LineAs, TotalAs}
+use Rattle.bill.specs.Whole.{lines_text, steel_of, HasLines, BeginsBill, TakesLine, EndsBill}
+use Rattle.bill.specs.declared.bill.Begun.{Begun}
+use Rattle.bill.specs.declared.bill.Refused.{Refused}
+use Rattle.bill.specs.declared.bill.Totalled.{Totalled}
+use Rattle.bill.specs.declared.refusal.Refusal.{Refusal}
+
+-- bytes put after a front make a longer front
+put_front : (page front bs : List ℕ) (w : ℕ) → take w page ≡ front → w ≡ length front → take (w + length bs) (put page w bs) ≡ front ++ bs
+put_front page front bs w e l =
+    ap (λ (u : List ℕ). take (w + length bs) (u ++ (bs ++ drop (w + length bs) page))) e
+    ∙ ap (λ (n : ℕ). take (n + length bs) (front ++ (bs ++ drop (w + length bs) page))) l
+    ∙ take-append-add front (bs ++ drop (w + length bs) page) (length bs)
+    ∙ ap (λ (u : List ℕ). front ++ u) (take-append_seam bs (drop (w + length bs) page))
+
+module _ (page page' front bs : List ℕ) (w v : ℕ) (p : Puts page w bs v page') (e : take w page ≡ front) (l : w ≡ length front) where
+  longer : take v page' ≡ front ++ bs
+  longer = rw (p.0, p.1) (put_front page front bs w e l)
+
+  long : v ≡ length (front ++ bs)
+  long = rw (length-append front bs) (omega (arith, p.1, l))
+
+pub begins : (page page' : List ℕ) (r : Result Begun Refusal) → BegunAs page r page' → BeginsBill r page'
+unfolding BeginsBill
+begins page page' (Ok b) h = record {
+  bytes = longer page page' [] head_text 0 b.written h.1 refl refl ∙ sym (append-nil head_text);
+  written = long page page' [] head_text 0 b.written h.1 refl refl ∙ ap length (sym (append-nil head_text));
+  number = h.2;
+  steel = h.3;
+}
+begins page page' (Err e) h = tt
+
+-- one line more of a chosen cage
+added : (page page' : List ℕ) (b b' : Begun) (place : ℕ) (x : Choice) → Added b page place (Chosen x) b' page' → (lines : List (ℕ × Choice)) → HasLines lines page b
+    → HasLines (lines ++ (place, x) ∷ []) page' b'
+added page page' b b' place x a lines h =
+    let front = head_text ++ lines_text lines in
+    let more : head_text ++ lines_text (lines ++ (place, x) ∷ []) ≡ front ++ line_text place x =
+    ap (λ (u : List ℕ). head_text ++ u) (flat_map-append (λ l. line_text l.0 l.1) lines ((place, x) ∷ []) ∙ ap (λ (u : List ℕ). lines_text lines ++ u) (append-nil (line_text place x)))
+    ∙ sym (append_assoc head_text (lines_text lines) (line_text place x)) in
+    record {
+      bytes = longer page page' front (line_text place x) b.written b'.written a.0 h.bytes h.written ∙ sym more;
+      written = long page page' front (line_text place x) b.written b'.written a.0 h.bytes h.written ∙ ap length (sym more);
+      number = rw (length-append lines ((place, x) ∷ [])) (omega (arith, a.1, h.number));
+      steel = rw (sum_by-append (λ (l : ℕ × Choice). l.1.steel) lines ((place, x) ∷ [])) (omega (arith, a.2, h.steel));
+    }
+
+shown_added : (page page' : List ℕ) (b b' : Begun) (place : ℕ) (s : Shown) → Added b page place s b' page' → (lines : List (ℕ × Choice)) → HasLines lines page b
+    → (x : Choice) × ((s ≡ Chosen x) × HasLines (lines ++ (place, x) ∷ []) page' b')
+shown_added page page' b b' place Empty a lines h = absurd a
+shown_added page page' b b' place Open a lines h = absurd a
+shown_added page page' b b' place (Chosen x) a lines h = (x, (refl, added page page' b b' place x a lines h))
+shown_added page page' b b' place (Impossible n) a lines h = absurd a
+
+pub takes_line : (b : Begun) (page : List ℕ) (reading : Reading) (r : Result Begun Refused) (page' : List ℕ) → LineAs b page reading r page' → TakesLine b page reading r page'
+unfolding TakesLine
+takes_line b page reading (Ok b') page' h = λ lines has. shown_added page page' b b' reading.place reading.shown h.1 lines has
+takes_line b page reading (Err e) page' h = tt
+
+pub ends : (b : Begun) (page : List ℕ) (r : Result Totalled Refused) (page' : List ℕ) → TotalAs b page r page' → EndsBill b page r page'
+unfolding EndsBill
+ends b page (Ok t) page' h =
+    λ lines has.
+    let front = head_text ++ lines_text lines in
+    let text : total_text b.lines b.steel ≡ total_text (length lines) (steel_of lines) = rw (has.number, has.steel) refl in (
+      longer page page' front (total_text b.lines b.steel) b.written t.written h.1 has.bytes has.written ∙ ap (λ (u : List ℕ). front ++ u) text,
+      long page page' front (total_text b.lines b.steel) b.written t.written h.1 has.bytes has.written ∙ ap (λ (u : List ℕ). length (front ++ u)) text,
+    )
+ends b page (Err e) page' h = tt

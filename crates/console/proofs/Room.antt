@@ -1,0 +1,215 @@
+-- How long a bill can get, and what one line more makes of it.
+use Rattle.std.proofs.Common.{◌≡◌, ℕ, ◌+◌, ◌<◌, ◌≤◌, Bool, true, false, cond, List, [], ◌∷◌, ◌++◌, length, take, codes, decimal, nat_lt, Some, None, Ok, Err, Result, sym, refl, ap, ◌∙◌, subst, arith, length-append, append-nil, add-one, ltb-false}
+use Rattle.std.proofs.lemmas.Fmt.{length-decimal-le}
+use Rattle.std.proofs.lemmas.Bool.Decides.{nat_tests}
+use Rattle.rebar.specs.declared.cage.Bars.{Bars}
+use Rattle.rebar.specs.declared.cage.Ties.{Ties}
+use Rattle.search.specs.declared.decision.Choice.{Choice}
+use Rattle.sheet.specs.declared.reading.Reading.{Reading}
+use Rattle.sheet.specs.declared.reading.Shown.{Shown}
+use Rattle.sheet.specs.declared.reading.Shown.TheVariants.{Chosen}
+use Rattle.bill.specs.Text.{two}
+use Rattle.bill.specs.Bill.{bars_text, ties_text, line_text, total_text, head_text}
+use Rattle.bill.specs.Steps.{short, why_line, Added, BegunAs, LineAs, TotalAs}
+use Rattle.bill.specs.Whole.{HasLines, bill_text, BeginsBill, TakesLine, EndsBill}
+use Rattle.bill.specs.declared.bill.Begun.{Begun}
+use Rattle.bill.specs.declared.bill.Refused.{Refused}
+use Rattle.bill.specs.declared.bill.Totalled.{Totalled}
+use Rattle.bill.specs.declared.refusal.Refusal.{Refusal}
+use Rattle.bill.specs.declared.refusal.Refusal.TheVariants.{PageShort}
+use Rattle.console.specs.Bills.{line_at, lines_below}
+use Rattle.console.specs.Billing.{roomy, Billed, AddsLine, AddsLines, WritesBill}
+use Rattle.console.specs.declared.failure.Failure.{Failure}
+
+bars_length : (b : Bars) → length (bars_text b) ≤ 5
+bars_length b =
+    let n = length-decimal-le 2 b.number (omega arith) (omega (arith, b.counted)) (omega (arith, b.counted)) in
+    let m = length-decimal-le 2 b.mark (omega arith) (omega (arith, b.marked)) (omega (arith, b.marked)) in
+    rw (length-append (decimal b.number) (codes "#" ++ decimal b.mark), length-append (codes "#") (decimal b.mark)) (omega (arith, n, m))
+
+ties_length : (t : Ties) → length (ties_text t) ≤ 6
+ties_length t =
+    let m = length-decimal-le 1 t.mark (omega arith) (omega (arith, t.marked)) (omega (arith, t.marked)) in
+    let s = length-decimal-le 3 t.spacing (omega arith) (omega (arith, t.spaced)) (omega (arith, t.spaced)) in
+    rw
+    (length-append (codes "#") (decimal t.mark ++ (codes "@" ++ decimal t.spacing)), length-append (decimal t.mark) (codes "@" ++ decimal t.spacing), length-append (codes "@") (decimal t.spacing))
+    (omega (arith, m, s))
+
+pub line_length : (place : ℕ) (x : Choice) → length (line_text place x) ≤ 38
+line_length place x =
+    let b = bars_length x.cage.bottom in
+    let t = bars_length x.cage.top in
+    let s = ties_length x.cage.ties in
+    let w = length-decimal-le 9 x.steel (omega arith) (omega (arith, x.light)) (omega (arith, x.light)) in
+    rw (
+      length-append (two place) (codes " B " ++ (bars_text x.cage.bottom ++ (codes " T " ++ (bars_text x.cage.top ++ (codes " S " ++ (ties_text x.cage.ties ++ (codes " " ++ (decimal x.steel ++ codes "\n")))))))),
+      length-append (codes " B ") (bars_text x.cage.bottom ++ (codes " T " ++ (bars_text x.cage.top ++ (codes " S " ++ (ties_text x.cage.ties ++ (codes " " ++ (decimal x.steel ++ codes "\n"))))))),
+      length-append (bars_text x.cage.bottom) (codes " T " ++ (bars_text x.cage.top ++ (codes " S " ++ (ties_text x.cage.ties ++ (codes " " ++ (decimal x.steel ++ codes "\n")))))),
+      length-append (codes " T ") (bars_text x.cage.top ++ (codes " S " ++ (ties_text x.cage.ties ++ (codes " " ++ (decimal x.steel ++ codes "\n"))))),
+      length-append (bars_text x.cage.top) (codes " S " ++ (ties_text x.cage.ties ++ (codes " " ++ (decimal x.steel ++ codes "\n")))),
+      length-append (codes " S ") (ties_text x.cage.ties ++ (codes " " ++ (decimal x.steel ++ codes "\n"))),
+      length-append (ties_text x.cage.ties) (codes " " ++ (decimal x.steel ++ codes "\n")),
+      length-append (codes " ") (decimal x.steel ++ codes "\n"),
+      length-append (decimal x.steel) (codes "\n"),
+    )
+    (omega (arith, b, t, s, w))
+
+next_lines : (shown : ℕ → Shown) (n : ℕ) (s : Shown) → shown n ≡ s → lines_below shown (n + 1) ≡ lines_below shown n ++ line_at n s
+next_lines shown n s e = rw add-one (ap (λ (v : Shown). lines_below shown n ++ line_at n v) e)
+
+-- a place that is not chosen makes no line
+pub left_out : (bill : Begun) (page : List ℕ) (shown : ℕ → Shown) (place : ℕ) (s : Shown) → shown place ≡ s → line_at place s ≡ [] → AddsLine bill page shown place (Ok bill) page
+unfolding AddsLine
+left_out bill page shown place s e none =
+    λ small b.
+    let same : lines_below shown (place + 1) ≡ lines_below shown place =
+    next_lines shown place s e ∙ ap (λ (l : List (ℕ × Choice)). lines_below shown place ++ l) none ∙ append-nil (lines_below shown place) in
+    record {
+      lines = subst (λ (l : List (ℕ × Choice)). HasLines l page bill) (sym same) b.lines;
+      few = omega (arith, b.few);
+      short = omega (arith, b.short);
+      room = b.room;
+    }
+
+-- there is no place after the last
+pub no_place : (bill : Begun) (page : List ℕ) (shown : ℕ → Shown) (place : ℕ) → 63 < place → AddsLine bill page shown place (Ok bill) page
+unfolding AddsLine
+no_place bill page shown place past = λ small b. absurd (omega (arith, past, small))
+
+-- a line that the page has room for is not refused
+not_refused : (bill : Begun) (page : List ℕ) (place : ℕ) (x : Choice) (e : Refusal) → bill.lines < 64 → bill.written + 38 ≤ length page
+    → why_line bill page place (Chosen x) ≡ Some e → ⊥
+not_refused bill page place x e few room h =
+    let l = line_length place x in
+    let t : nat_lt bill.lines 64 ≡ true = grind (arith, nat_tests) in
+    let f : nat_lt (length page) (bill.written + length (line_text place x)) ≡ false = grind (arith, nat_tests) in
+    no_cause (sym (rw (t, f) refl) ∙ h)
+  where
+    no_cause : None ≡ Some e → ⊥
+    no_cause e = cc
+
+-- a chosen place makes one
+pub line_more : (bill : Begun) (page : List ℕ) (shown : ℕ → Shown) (place : ℕ) (reading : Reading) (x : Choice) (r : Result Begun Refused) (page' : List ℕ)
+    → length page' ≡ length page → reading.place ≡ place → reading.shown ≡ shown place → reading.shown ≡ Chosen x
+    → LineAs bill page reading r page' → TakesLine bill page reading r page' → AddsLine bill page shown place r page'
+unfolding AddsLine TakesLine
+line_more bill page shown place reading x (Ok bill') page' long at is chosen l takes =
+    λ small b.
+    let t = takes (lines_below shown place) b.lines in
+    let a = added l.1 in
+    let size = line_length reading.place x in
+    record {
+      lines = subst (λ (ls : List (ℕ × Choice)). HasLines ls page' bill')
+          (ap (λ (p : ℕ). lines_below shown place ++ (p, t.0) ∷ []) at ∙ sym (next_lines shown place (Chosen t.0) (sym is ∙ t.1.0))) t.1.1;
+      few = omega (arith, a.1, b.few);
+      short = omega (arith, a.0, size, b.short);
+      room = long ∙ b.room;
+    }
+  where
+    added : Added bill page reading.place reading.shown bill' page' → (bill'.written ≡ bill.written + length (line_text reading.place x)) × (bill'.lines ≡ bill.lines + 1)
+    added d = let c : Added bill page reading.place (Chosen x) bill' page' = subst (λ (s : Shown). Added bill page reading.place s bill' page') chosen d in (c.0.1, c.1)
+line_more bill page shown place reading x (Err e) page' long at is chosen l takes =
+    λ small b.
+    not_refused bill page reading.place x e.refusal (omega (arith, b.few, small)) (omega (arith, b.short, b.room, small))
+    (ap (λ (s : Shown). why_line bill page reading.place s) (sym chosen) ∙ l.0)
+
+-- what a line more says where it is refused, and where it is not
+module _ (bill : Begun) (page : List ℕ) (shown : ℕ → Shown) (place : ℕ) (page' : List ℕ) where
+  pub add_on : (bill' : Begun) → AddsLine bill page shown place (Ok bill') page' → place < 64 → Billed shown place page bill
+      → Billed shown (place + 1) page' bill'
+  unfolding AddsLine
+  add_on bill' a = a
+
+  pub add_fails : (e : Refused) → AddsLine bill page shown place (Err e) page' → place < 64 → Billed shown place page bill → ⊥
+  unfolding AddsLine
+  add_fails e a = a
+
+-- the loop over the places, at its end and where it stops
+module _ (begun : Begun) (page : List ℕ) (shown : ℕ → Shown) (page' : List ℕ) where
+  pub all_added : (bill : Begun) (n : ℕ) → n ≤ 64 → 64 ≤ n → (Billed shown 0 page begun → Billed shown n page' bill)
+      → AddsLines begun page shown (Ok bill) page'
+  unfolding AddsLines
+  all_added bill n le ge h = let e : n ≡ 64 = omega (arith, le, ge) in λ b. subst (λ (k : ℕ). Billed shown k page' bill) e (h b)
+
+  pub add_stops : (r : Result Begun Refused) (e : Refused) → r ≡ Err e → (Billed shown 0 page begun → ⊥) → AddsLines begun page shown r page'
+  unfolding AddsLines
+  add_stops r e is h = subst (λ (v : Result Begun Refused). AddsLines begun page shown v page') (sym is) h
+
+total_length : (b : Begun) → length (total_text b.lines b.steel) ≤ 22
+total_length b =
+    let n = length-decimal-le 2 b.lines (omega arith) (omega (arith, b.few)) (omega (arith, b.few)) in
+    let s = length-decimal-le 12 b.steel (omega arith) (omega (arith, b.few, b.light)) (omega (arith, b.few, b.light)) in
+    rw (
+      length-append (codes "TOTAL ") (decimal b.lines ++ (codes " " ++ (decimal b.steel ++ codes "\n"))),
+      length-append (decimal b.lines) (codes " " ++ (decimal b.steel ++ codes "\n")),
+      length-append (codes " ") (decimal b.steel ++ codes "\n"),
+      length-append (decimal b.steel) (codes "\n"),
+    )
+    (omega (arith, n, s))
+
+-- bytes that the page has room for are not refused
+roomy_enough : (page bs : List ℕ) (w : ℕ) (e : Refusal) → w + length bs ≤ length page → short page w bs ≡ Some e → ⊥
+roomy_enough page bs w e room h =
+    let f : nat_lt (length page) (w + length bs) ≡ false = grind (arith, nat_tests) in no_cause (sym (rw f refl) ∙ h)
+  where
+    no_cause : None ≡ Some e → ⊥
+    no_cause e = cc
+
+-- bytes that are not refused have room
+roomy_there : (page bs : List ℕ) (w : ℕ) → short page w bs ≡ None → w + length bs ≤ length page
+roomy_there page bs w h = go (nat_lt (length page) (w + length bs)) refl
+  where
+    no_cause : Some PageShort ≡ None → ⊥
+    no_cause e = cc
+
+    go : (v : Bool) → nat_lt (length page) (w + length bs) ≡ v → w + length bs ≤ length page
+    go true e = absurd (no_cause (sym (ap (λ (v : Bool). cond v (Some PageShort) None) e) ∙ h))
+    go false e = ltb-false (length page) (w + length bs) e
+
+-- the bill on a page with room
+module _ (page page' : List ℕ) (shown : ℕ → Shown) (long : length page' ≡ length page) where
+  pub begun_lines : (bill : Begun) → BeginsBill (Ok bill) page' → BegunAs page (Ok bill) page' → length page ≡ roomy → Billed shown 0 page' bill
+  unfolding BeginsBill
+  begun_lines bill h a room =
+      record { lines = h; few = omega (arith, a.2); short = omega (arith, a.1.1); room = long ∙ room }
+
+  pub begin_fits : (e : Refusal) → BegunAs page (Err e) page' → length page ≡ roomy → ⊥
+  begin_fits e h room = roomy_enough page head_text 0 e (omega (arith, room)) h.0
+
+  pub ended_bill : (bill : Begun) (t : Totalled) → EndsBill bill page (Ok t) page' → TotalAs bill page (Ok t) page' → Billed shown 64 page bill
+      → (take t.written page' ≡ bill_text (lines_below shown 64)) × (t.written ≤ roomy)
+  unfolding EndsBill
+  ended_bill bill t h a b =
+      let there = roomy_there page (total_text bill.lines bill.steel) bill.written a.0 in
+      ((h (lines_below shown 64) b.lines).0, omega (arith, a.1.1, there, b.room))
+
+  pub total_fits : (bill : Begun) (e : Refused) → TotalAs bill page (Err e) page' → Billed shown 64 page bill → ⊥
+  total_fits bill e h b = roomy_enough page (total_text bill.lines bill.steel) bill.written e.refusal (omega (arith, b.room, b.short, total_length bill)) h.0
+
+-- from all lines to the whole bill
+module _ (page : List ℕ) (shown : ℕ → Shown) (page' : List ℕ) where
+  pub written_bill : (n : ℕ) → (length page ≡ roomy → (take n page' ≡ bill_text (lines_below shown 64)) × (n ≤ roomy)) → WritesBill page shown (Ok n) page'
+  unfolding WritesBill
+  written_bill n h = h
+
+  pub never_stops : (r : Result ℕ Failure) (e : Failure) → r ≡ Err e → (length page ≡ roomy → ⊥) → WritesBill page shown r page'
+  unfolding WritesBill
+  never_stops r e is h = subst (λ (v : Result ℕ Failure). WritesBill page shown v page') (sym is) h
+
+  pub lines_on : (begun bill : Begun) → AddsLines begun page shown (Ok bill) page' → Billed shown 0 page begun → Billed shown 64 page' bill
+  unfolding AddsLines
+  lines_on begun bill a = a
+
+  pub lines_fail : (begun : Begun) (e : Refused) → AddsLines begun page shown (Err e) page' → Billed shown 0 page begun → ⊥
+  unfolding AddsLines
+  lines_fail begun e a = a
+
+-- a page with room takes the whole bill
+pub on_page : (page : List ℕ) (shown : ℕ → Shown) (n : ℕ) (page' : List ℕ) → WritesBill page shown (Ok n) page' → length page ≡ roomy
+    → (take n page' ≡ bill_text (lines_below shown 64)) × (n ≤ roomy)
+unfolding WritesBill
+on_page page shown n page' h = h
+
+pub no_refusal : (page : List ℕ) (shown : ℕ → Shown) (r : Result ℕ Failure) (e : Failure) (page' : List ℕ) → r ≡ Err e → WritesBill page shown r page' → length page ≡ roomy → ⊥
+unfolding WritesBill
+no_refusal page shown r e page' is h = subst (λ (v : Result ℕ Failure). WritesBill page shown v page') is h

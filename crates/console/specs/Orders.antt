@@ -1,0 +1,27 @@
+-- The orders that a stream of bytes spells.
+use Rattle.std.specs.Prelude.{◌≡◌, ◌≢◌, ℕ, Bool, true, false, not, List, [], ◌∷◌, ◌++◌, length, ◌==◌}
+use Rattle.sheet.specs.declared.call.Call.{Call}
+use Rattle.sheet.specs.declared.call.Call.TheVariants.{Enter, Correct, Strike, Stock, Design, Read, Count}
+use Rattle.console.specs.Letters.{enter_letter, correct_letter, strike_letter, stock_letter, design_letter}
+
+-- a stream begins with the order of this call, and goes on with the rest: a letter, then single bytes; a card has its length
+-- before it; a mark goes out where the last byte is 0, and comes in where it is another
+abbrev pub Begins : List ℕ → Call → List ℕ → Type 0
+Begins stream (Enter p card) rest = stream ≡ enter_letter ∷ p ∷ length card.now ∷ (card.now ++ rest)
+Begins stream (Correct p card) rest = stream ≡ correct_letter ∷ p ∷ length card.now ∷ (card.now ++ rest)
+Begins stream (Strike p) rest = stream ≡ strike_letter ∷ p ∷ rest
+Begins stream (Stock kind mark is-in) rest =
+    (value : ℕ) × ((stream ≡ stock_letter ∷ kind ∷ mark ∷ value ∷ rest) × (is-in ≡ not (value == 0)))
+Begins stream (Design p) rest = stream ≡ design_letter ∷ p ∷ rest
+Begins stream (Read p) rest = ⊥
+Begins stream Count rest = ⊥
+
+-- no order stands there whole
+abbrev pub NoOrder : List ℕ → Type 0
+NoOrder stream = (call : Call) (rest : List ℕ) → Begins stream call rest → ⊥
+
+-- a stream spells these calls, one order after the other, up to its end; or up to bytes that no order begins, where it stops
+abbrev pub Spells : List ℕ → List Call → Bool → Type 0
+Spells stream [] false = stream ≡ []
+Spells stream [] true = (stream ≢ []) × NoOrder stream
+Spells stream (call ∷ calls) stopped = (rest : List ℕ) × (Begins stream call rest × Spells rest calls stopped)

@@ -1,0 +1,34 @@
+-- A card taken to a place is what enter does at an empty one, and correct at a taken one.
+use Rattle.std.proofs.Common.{◌≡◌, ℕ, ◌<◌, true, false, List, Some, None, Option, Ok, Err, Result, is_some, is_none, nat_lt, Bor, refl, arith, ◌∙◌}
+use Rattle.std.proofs.lemmas.Bool.Decides.{nat_tests}
+use Rattle.rebar.specs.declared.beam.Beam.{Beam}
+use Rattle.rebar.specs.declared.cage.Cage.{Cage}
+use Rattle.sheet.specs.declared.call.Call.{Call}
+use Rattle.sheet.specs.declared.call.Call.TheVariants.{Enter, Correct}
+use Rattle.sheet.specs.declared.entry.Entry.{Entry}
+use Rattle.sheet.specs.declared.refusal.Refusal.{Refusal}
+use Rattle.sheet.specs.declared.table.Table.{Table}
+use Rattle.card.specs.Card.{card_fault}
+use Rattle.sheet.specs.Calls.{why, refusal_of, Takes, TakesOrRefuses, Does, Makes, refusal}
+use Rattle.sheet.specs.Table.{place_at}
+
+within : (p : ℕ) → p < 64 → nat_lt 63 p ≡ false
+within p h = grind (arith, nat_tests)
+
+some : (held : Option Entry) → is_none held ≡ false → is_some held ≡ true
+some None e = grind (arith, e)
+some (Some x) e = refl
+
+module _ (answer : Beam → Cage → ℕ) (t t' : Table) (p : ℕ) (card : Bor (List ℕ)) where
+  taken : (call : Call) → (Takes p card.now t t' → Does answer t call t') → why t call ≡ refusal_of (card_fault card.now)
+      → (r : Result Unit Refusal) → TakesOrRefuses p card.now t r t' → Makes answer t call (refusal r) t'
+  taken call does e (Ok _) h = (grind (arith, e, h.0), does h.1)
+  taken call does e (Err _) h = (e ∙ h.0, h.1)
+
+  pub entered : (r : Result Unit Refusal) → p < 64 → is_some (place_at t p) ≡ false → TakesOrRefuses p card.now t r t'
+      → Makes answer t (Enter p card) (refusal r) t'
+  entered r a b = taken (Enter p card) (λ h. h) (rw (within p a, b) refl) r
+
+  pub corrected : (r : Result Unit Refusal) → p < 64 → is_none (place_at t p) ≡ false → TakesOrRefuses p card.now t r t'
+      → Makes answer t (Correct p card) (refusal r) t'
+  corrected r a b = taken (Correct p card) (λ h. h) (rw (within p a, some (place_at t p) b) refl) r
