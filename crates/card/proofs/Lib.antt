@@ -3,3 +3,4 @@ pub mod Offsets
 pub mod First
 pub mod Bits
 pub mod WellFormed
+pub mod One

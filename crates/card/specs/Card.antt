@@ -1,5 +1,5 @@
 -- The whole card: its fault, or the beam that it describes.
-use Rattle.std.specs.Prelude.{◌≡◌, ℕ, ◌+◌, ◌*◌, true, cond, not, List, length, drop, Some, None, Option, Result, nat_lt, slice_index}
+use Rattle.std.specs.Prelude.{◌≡◌, ℕ, ◌+◌, ◌*◌, true, cond, not, List, length, drop, Some, None, Err, Ok, Option, Result, nat_lt, slice_index}
 use Rattle.rebar.specs.declared.beam.Beam.{Beam}
 use Rattle.card.specs.declared.fault.Fault.{Fault}
 use Rattle.card.specs.declared.fault.FaultKind.TheVariants.{BytesMissing, UnknownBit, RequiredBitAbsent, BytesOver}
@@ -55,3 +55,8 @@ CardByCover least card = Answers (fault_by_cover least card) (BeamIs (map_of car
 -- the answer to a card: its first fault, or its beam
 abbrev pub CardAs : List ℕ → Result Beam Fault → Type 0
 CardAs card = Answers (card_fault card) (BeamIs (map_of card) (rest_of card))
+
+-- no other beam is described by a card that is read as one
+abbrev pub OfNoOther : List ℕ → Result Beam Fault → Type 0
+OfNoOther card (Ok b) = (c : Beam) → CardAs card (Ok c) → c ≡ b
+OfNoOther card (Err e) = Unit {0}

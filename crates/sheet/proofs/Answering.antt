@@ -1,6 +1,5 @@
 -- The answers to calls of any kind.
 use Rattle.std.proofs.Common.{◌≡◌, ℕ, ◌<◌, ◌≤◌, true, false, List, ◌∷◌, Some, None, IfOk, ◌∙◌, Ok, Err, Result, nat_lt, refl, sym, subst, arith}
-use Rattle.std.proofs.lemmas.Bool.Decides.{nat_tests}
 use Rattle.rebar.specs.declared.beam.Beam.{Beam}
 use Rattle.rebar.specs.declared.cage.Cage.{Cage}
 use Rattle.sheet.specs.declared.call.Answer.{Answer}
@@ -15,6 +14,7 @@ use Rattle.sheet.specs.declared.table.Table.{Table}
 use Rattle.sheet.specs.Calls.{Makes, Reads, refusal, done, shows}
 use Rattle.sheet.specs.Law.{Tells, Answers, Lawful}
 use Rattle.sheet.specs.Runs.{Grows, ReadsLawfully, CountsDesigns, AnswersLawfully}
+use Rattle.sheet.proofs.Numbers.{there, past}
 use Rattle.sheet.proofs.Runs.{grows, lawful}
 
 module _ (pile : Beam → Cage → ℕ) (t : Table) where
@@ -31,12 +31,6 @@ module _ (pile : Beam → Cage → ℕ) (t : Table) where
   done_lawfully c (Err f) x t' e g tells = λ calls run. subst (λ (v : Result Answer Refusal). Answers pile calls c v) (sym e) (g calls run).1
 
   -- a reading
-  there : (p : ℕ) → p ≤ 63 → nat_lt 63 p ≡ false
-  there p h = grind (arith, nat_tests)
-
-  past : (p : ℕ) → 63 < p → nat_lt 63 p ≡ true
-  past p h = grind (arith, nat_tests)
-
   pub read_made : (p : ℕ) (r : Result Reading Refusal) (x : Result Answer Refusal) → x ≡ shows r → Reads p t r → Makes pile t (call.Read p) (refusal x) t
   read_made p (Ok u) x e h = subst (λ (v : Result Answer Refusal). Makes pile t (call.Read p) (refusal v) t) (sym e) (rw (there p h.0) refl, refl)
   read_made p (Err f) x e h = subst (λ (v : Result Answer Refusal). Makes pile t (call.Read p) (refusal v) t) (sym e) (rw (past p h.0, h.1) refl, refl)

@@ -1,3 +1,4 @@
+pub mod Numbers
 pub mod Marks
 pub mod Takes
 pub mod StockAfter

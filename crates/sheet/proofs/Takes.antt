@@ -1,6 +1,5 @@
 -- A card taken to a place is what enter does at an empty one, and correct at a taken one.
 use Rattle.std.proofs.Common.{◌≡◌, ℕ, ◌<◌, true, false, List, Some, None, Option, Ok, Err, Result, is_some, is_none, nat_lt, Bor, refl, arith, ◌∙◌}
-use Rattle.std.proofs.lemmas.Bool.Decides.{nat_tests}
 use Rattle.rebar.specs.declared.beam.Beam.{Beam}
 use Rattle.rebar.specs.declared.cage.Cage.{Cage}
 use Rattle.sheet.specs.declared.call.Call.{Call}
@@ -11,9 +10,7 @@ use Rattle.sheet.specs.declared.table.Table.{Table}
 use Rattle.card.specs.Card.{card_fault}
 use Rattle.sheet.specs.Calls.{why, refusal_of, Takes, TakesOrRefuses, Does, Makes, refusal}
 use Rattle.sheet.specs.Table.{place_at}
-
-within : (p : ℕ) → p < 64 → nat_lt 63 p ≡ false
-within p h = grind (arith, nat_tests)
+use Rattle.sheet.proofs.Numbers.{there}
 
 some : (held : Option Entry) → is_none held ≡ false → is_some held ≡ true
 some None e = grind (arith, e)
@@ -27,8 +24,8 @@ module _ (answer : Beam → Cage → ℕ) (t t' : Table) (p : ℕ) (card : Bor (
 
   pub entered : (r : Result Unit Refusal) → p < 64 → is_some (place_at t p) ≡ false → TakesOrRefuses p card.now t r t'
       → Makes answer t (Enter p card) (refusal r) t'
-  entered r a b = taken (Enter p card) (λ h. h) (rw (within p a, b) refl) r
+  entered r a b = taken (Enter p card) (λ h. h) (rw (there p (omega (arith, a)), b) refl) r
 
   pub corrected : (r : Result Unit Refusal) → p < 64 → is_none (place_at t p) ≡ false → TakesOrRefuses p card.now t r t'
       → Makes answer t (Correct p card) (refusal r) t'
-  corrected r a b = taken (Correct p card) (λ h. h) (rw (within p a, some (place_at t p) b) refl) r
+  corrected r a b = taken (Correct p card) (λ h. h) (rw (there p (omega (arith, a)), some (place_at t p) b) refl) r
