@@ -1,5 +1,5 @@
 -- The answers to calls of any kind.
-use Rattle.std.proofs.Common.{◌≡◌, ℕ, ◌<◌, ◌≤◌, true, false, List, ◌∷◌, Some, None, IfOk, ◌∙◌, Ok, Err, Result, nat_lt, refl, sym, subst, arith}
+use Rattle.std.proofs.Common.{◌≡◌, ℕ, List, ◌∷◌, Some, None, IfOk, ◌∙◌, Ok, Err, Result, refl, sym, subst}
 use Rattle.rebar.specs.declared.beam.Beam.{Beam}
 use Rattle.rebar.specs.declared.cage.Cage.{Cage}
 use Rattle.sheet.specs.declared.call.Answer.{Answer}

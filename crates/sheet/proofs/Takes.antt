@@ -1,5 +1,5 @@
 -- A card taken to a place is what enter does at an empty one, and correct at a taken one.
-use Rattle.std.proofs.Common.{◌≡◌, ℕ, ◌<◌, true, false, List, Some, None, Option, Ok, Err, Result, is_some, is_none, nat_lt, Bor, refl, arith, ◌∙◌}
+use Rattle.std.proofs.Common.{◌≡◌, ℕ, ◌<◌, true, false, List, Some, None, Option, Ok, Err, Result, is_some, is_none, Bor, refl, arith, ◌∙◌}
 use Rattle.rebar.specs.declared.beam.Beam.{Beam}
 use Rattle.rebar.specs.declared.cage.Cage.{Cage}
 use Rattle.sheet.specs.declared.call.Call.{Call}
