@@ -33,7 +33,7 @@ none P k d l = absurd (omega (arith, l))
 here : (pile : Beam → Cage → ℕ) (calls : List Call) (p : ℕ) (s : Shown) → Lawful pile calls p s → All (IsLightestAfter pile calls) (line_at p s)
 here pile calls p Empty h = none (IsLightestAfter pile calls)
 here pile calls p Open h = none (IsLightestAfter pile calls)
-here pile calls p (Chosen x) h = one (IsLightestAfter pile calls) (p, x) h.right
+here pile calls p (Chosen x) h = one (IsLightestAfter pile calls) (p, x) h.right.0
 here pile calls p (Impossible n) h = none (IsLightestAfter pile calls)
 
 all_lightest : (pile : Beam → Cage → ℕ) (calls : List Call) (shown : ℕ → Shown) → ((p : ℕ) → Lawful pile calls p (shown p)) → (n : ℕ)

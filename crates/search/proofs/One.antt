@@ -38,7 +38,7 @@ same beam c d h k =
     let l = level _ _ g.1 g.2 in
     same_cage c d (same_bars _ _ a.0 b.0) (same_bars _ _ e.0 f.0) (same_ties _ _ g.0 l.0)
 
-one_decision : (answer : Beam → Cage → ℕ) (got : Kind → ℕ → Bool) (beam : Beam) (r s : Decision)
+pub one_decision : (answer : Beam → Cage → ℕ) (got : Kind → ℕ → Bool) (beam : Beam) (r s : Decision)
     → Lightest answer got beam r
     → Lightest answer got beam s
     → r ≡ s

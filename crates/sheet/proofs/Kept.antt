@@ -19,10 +19,10 @@ use Rattle.search.specs.Lightest.{Lightest}
 use Rattle.sheet.specs.declared.call.Call.{Call}
 use Rattle.sheet.specs.declared.entry.Entry.{Entry}
 use Rattle.sheet.specs.declared.table.Table.{Table}
-use Rattle.sheet.specs.Places.{beam_of, decided, uses, kept, place_reopened}
+use Rattle.sheet.specs.Places.{beam_of, decided, uses, doubtful, kept, place_reopened}
 use Rattle.sheet.specs.Table.{place_at, restocked}
 use Rattle.sheet.specs.Calls.{why}
-use Rattle.sheet.specs.History.{marks, in_after, stocked_after, card_after, why_after, decided_after, designs_after}
+use Rattle.sheet.specs.History.{marks, in_after, stocked_after, card_after, why_after, If, Stands, designs_after}
 use Rattle.sheet.proofs.StockAfter.{sets, has_set, has_same, offered, stay, no_more}
 
 -- a place holds a beam that has to do with the card there, if any
@@ -50,20 +50,30 @@ abbrev pub Right : (Beam → Cage → ℕ) → (Kind → ℕ → Bool) → Optio
 Right pile got None = Unit {0}
 Right pile got (Some e) = IsDecidedWell pile got e.beam e.decision
 
--- what holds of a table, where these cards lie at the places, these marks are in, these places are decided, and there were so
--- many designs
-pub record KeptBy (pile : Beam → Cage → ℕ) (cards : ℕ → Option (List ℕ)) (got : Kind → ℕ → Bool) (done : ℕ → Bool) (designs : ℕ) (t : Table) : Type 0 where
+-- the decision that a place holds
+abbrev pub decision_at : Option Entry → Option Decision
+decision_at None = None
+decision_at (Some e) = e.decision
+
+-- the one decision of which S holds, or that it holds of none
+abbrev pub AgreesBy : Option Decision → (Decision → Type 0) → Type 0
+AgreesBy None S = (d : Decision) → S d → ⊥
+AgreesBy (Some d) S = S d × ((e : Decision) → S e → e ≡ d)
+
+-- what holds of a table, where these cards lie at the places, these marks are in, these decisions stand, and there were so many
+-- designs
+pub record KeptBy (pile : Beam → Cage → ℕ) (cards : ℕ → Option (List ℕ)) (got : Kind → ℕ → Bool) (S : ℕ → Decision → Type 0) (designs : ℕ) (t : Table) : Type 0 where
   pub places : length t.places ≡ 64
   pub mains : length t.stock.main ≡ 9
   pub ties : length t.stock.tie ≡ 3
   pub holds : (q : ℕ) → Holds (cards q) (place_at t q)
   pub marks : (k : Kind) (m : ℕ) → has t.stock k m ≡ got k m
-  pub shows : (q : ℕ) → done q ≡ true → is_decided (place_at t q) ≡ true
+  pub stands : (q : ℕ) → AgreesBy (decision_at (place_at t q)) (S q)
   pub right : (q : ℕ) → Right pile (has t.stock) (place_at t q)
   pub count : t.count ≡ min designs 4294967295
 
 abbrev pub Kept : (Beam → Cage → ℕ) → List Call → Table → Type 0
-Kept pile calls t = KeptBy pile (card_after calls) (in_after calls) (decided_after calls) (designs_after calls) t
+Kept pile calls t = KeptBy pile (card_after calls) (in_after calls) (Stands pile calls) (designs_after calls) t
 
 -- one place is written, and the others stay
 placed : (xs : List (Option Entry)) (p : ℕ) (x : Option Entry) → length xs ≡ 64 → p ≤ 63 → (q : ℕ)
@@ -87,20 +97,37 @@ all_alike a zero q = refl
 all_alike a (suc n) zero = refl
 all_alike a (suc n) (suc q) = all_alike a n q
 
--- what was decided is decided, but at the place that is written
-pub unless : (b d : Bool) (x y : Option Entry) → (d ≡ true → is_decided y ≡ true) → (not b && d) ≡ true → is_decided (cond b x y) ≡ true
-unless true d x y h e = absurd (false≢true e)
-unless false d x y h e = h e
+-- a place that is emptied, or whose beam is open, has no decision that stands
+pub ended : (b : Bool) (S : Decision → Type 0) (x y : Option Entry) → decision_at x ≡ None → AgreesBy (decision_at y) S
+    → AgreesBy (decision_at (cond b x y)) (λ d. If b ⊥ (S d))
+ended true S x y e h = subst (λ (o : Option Decision). AgreesBy o (λ d. ⊥)) (sym e) (λ d s. s)
+ended false S x y e h = h
 
-pub also : (b d : Bool) (x y : Option Entry) → is_decided x ≡ true → (d ≡ true → is_decided y ≡ true) → (b || d) ≡ true → is_decided (cond b x y) ≡ true
-also true d x y i h e = i
-also false d x y i h e = h e
+-- a stock order that alters nothing, or gives no cause, leaves the decision
+left : (same : Bool) (o : Option Decision) (S : Decision → Type 0) (f : Decision → Bool) → same ≡ true → AgreesBy o S
+    → AgreesBy o (λ d. S d × ((not same && f d) ≡ false))
+left same None S f e h = λ d s. h d s.0
+left same (Some d) S f e h = ((h.0, rw e refl), λ d' s. h.1 d' s.0)
+
+-- one that gives cause ends it
+dropped : (same : Bool) (k : Kind) (m : ℕ) (b : Bool) (o : Option Decision) (S : Decision → Type 0) (f : Decision → Bool) → same ≡ false
+    → ((d : Decision) → f d ≡ doubtful k m b d) → AgreesBy o S → AgreesBy (kept k m b o) (λ d. S d × ((not same && f d) ≡ false))
+dropped same k m b None S f e g h = λ d s. h d s.0
+dropped same k m b (Some d) S f e g h = go (doubtful k m b d) refl
+  where
+    go : (v : Bool) → doubtful k m b d ≡ v → AgreesBy (cond v None (Some d)) (λ d'. S d' × ((not same && f d') ≡ false))
+    go true c = λ d' s. false≢true (sym s.1 ∙ rw (e, h.1 d' s.0, g d, c) refl)
+    go false c = ((h.0, rw (e, g d, c) refl), λ d' s. h.1 d' s.0)
+
+reopened_decision : (k : Kind) (m : ℕ) (b : Bool) (held : Option Entry) → decision_at (place_reopened k m b held) ≡ kept k m b (decision_at held)
+reopened_decision k m b None = refl
+reopened_decision k m b (Some e) = refl
 
 either : {A : Type 0} (P : A → Type 0) (b : Bool) (x y : A) → P x → P y → P (cond b x y)
 either P true x y h k = h
 either P false x y h k = k
 
-none_some : (b : Beam) → None ≡ Some b → ⊥
+pub none_some : (b : Beam) → None ≡ Some b → ⊥
 none_some b e = cc
 
 -- the place and its card are taken or not alike; chosen alike they stay so; and a place that is decided, or open again, holds
@@ -116,7 +143,7 @@ module _ (P : List ℕ → Beam → Type 0) where
   both true c d x y h k = h
   both false c d x y h k = k
 
-  same_beam : (card : List ℕ) (x b : Beam) → Some x ≡ Some b → P card x → P card b
+  pub same_beam : (card : List ℕ) (x b : Beam) → Some x ≡ Some b → P card x → P card b
   same_beam card x b e h = let same : x ≡ b = cc in subst (P card) same h
 
   pub swapped : (c : Option (List ℕ)) (held : Option Entry) (b : Beam) (d : Decision) → HoldsBy P c held → beam_of held ≡ Some b
@@ -161,15 +188,15 @@ ties_after : (s : Stock) (k : Kind) (m : ℕ) (b : Bool) → length s.tie ≡ 3 
 ties_after s Main m b l = l
 ties_after s Tie m b l = length-set s.tie (m - 3) b ∙ l
 
-module _ {pile : Beam → Cage → ℕ} {cards : ℕ → Option (List ℕ)} {got : Kind → ℕ → Bool} {done : ℕ → Bool} {designs : ℕ} {t : Table}
-    (k : KeptBy pile cards got done designs t) where
+module _ {pile : Beam → Cage → ℕ} {cards : ℕ → Option (List ℕ)} {got : Kind → ℕ → Bool} {S : ℕ → Decision → Type 0} {designs : ℕ} {t : Table}
+    (k : KeptBy pile cards got S designs t) where
   -- the table with one place written
   pub written : (p : ℕ) → p ≤ 63 → (x : Option Entry) → Right pile (has t.stock) x
       → (cards' : ℕ → Option (List ℕ)) → ((q : ℕ) → Holds (cards' q) (cond (p == q) x (place_at t q)))
-      → (done' : ℕ → Bool) → ((q : ℕ) → done' q ≡ true → is_decided (cond (p == q) x (place_at t q)) ≡ true)
+      → (S' : ℕ → Decision → Type 0) → ((q : ℕ) → AgreesBy (decision_at (cond (p == q) x (place_at t q))) (S' q))
       → (n count : ℕ) → count ≡ min n 4294967295
-      → KeptBy pile cards' got done' n (record { places = slice_set t.places p x; stock = t.stock; count = count })
-  written p h x r cards' hs done' ds n count c =
+      → KeptBy pile cards' got S' n (record { places = slice_set t.places p x; stock = t.stock; count = count })
+  written p h x r cards' hs S' ds n count c =
       let at = placed t.places p x k.places h in
       record {
         places = length-set t.places p x ∙ k.places;
@@ -177,22 +204,20 @@ module _ {pile : Beam → Cage → ℕ} {cards : ℕ → Option (List ℕ)} {got
         ties = k.ties;
         holds = λ q. subst (λ (v : Option Entry). Holds (cards' q) v) (sym (at q)) (hs q);
         marks = k.marks;
-        shows = λ q e. ap is_decided (at q) ∙ ds q e;
+        stands = λ q. subst (λ (v : Option Entry). AgreesBy (decision_at v) (S' q)) (sym (at q)) (ds q);
         right = λ q. subst (λ (v : Option Entry). Right pile (has t.stock) v) (sym (at q)) (either (Right pile (has t.stock)) (p == q) x (place_at t q) r (k.right q));
         count = c;
       }
 
   -- the table with a mark set, where `same` says whether it was set so before
-  pub restocked_kept : (j : Kind) (m : ℕ) (b : Bool) → known j m ≡ true → (same : Bool) → (same ≡ true → beq (has t.stock j m) b ≡ true)
-      → KeptBy pile cards (λ i n. cond (sets j m i n) b (got i n)) (λ q. same && done q) designs (restocked j m b t)
-  restocked_kept j m b fine same is = go (beq (has t.stock j m) b) refl
+  pub restocked_kept : (j : Kind) (m : ℕ) (b : Bool) → known j m ≡ true → (same : Bool) → same ≡ beq (has t.stock j m) b
+      → (f : Decision → Bool) → ((d : Decision) → f d ≡ doubtful j m b d)
+      → KeptBy pile cards (λ i n. cond (sets j m i n) b (got i n)) (λ q d. S q d × ((not same && f d) ≡ false)) designs (restocked j m b t)
+  restocked_kept j m b fine same is f cause = go (beq (has t.stock j m) b) refl
     where
-      s' : Stock
-      s' = with_mark t.stock j m b
-
       go : (v : Bool) → beq (has t.stock j m) b ≡ v
-          → KeptBy pile cards (λ i n. cond (sets j m i n) b (got i n)) (λ q. same && done q) designs
-          (cond v t (record { places = map (place_reopened j m b) t.places; stock = with_mark t.stock j m b; count = t.count }))
+          → KeptBy pile cards (λ i n. cond (sets j m i n) b (got i n)) (λ q d. S q d × ((not same && f d) ≡ false)) designs
+              (cond v t (record { places = map (place_reopened j m b) t.places; stock = with_mark t.stock j m b; count = t.count }))
       go true h =
           record {
             places = k.places;
@@ -200,7 +225,7 @@ module _ {pile : Beam → Cage → ℕ} {cards : ℕ → Option (List ℕ)} {got
             ties = k.ties;
             holds = k.holds;
             marks = λ i n. has_same t.stock j m b h i n ∙ ap (λ v. cond (sets j m i n) b v) (k.marks i n);
-            shows = λ q e. k.shows q (and_parts same (done q) e).1;
+            stands = λ q. left same (decision_at (place_at t q)) (S q) f (is ∙ h) (k.stands q);
             right = k.right;
             count = k.count;
           }
@@ -213,7 +238,10 @@ module _ {pile : Beam → Cage → ℕ} {cards : ℕ → Option (List ℕ)} {got
             ties = ties_after t.stock j m b k.ties;
             holds = λ q. subst (λ (v : Option Entry). Holds (cards q) v) (sym (at q)) (still (λ card b. CardAs card (Ok b)) j m b (cards q) (place_at t q) (k.holds q));
             marks = λ i n. set' i n ∙ ap (λ v. cond (sets j m i n) b v) (k.marks i n);
-            shows = λ q e. absurd (false≢true (sym h ∙ is (and_parts same (done q) e).0));
+            stands = λ q.
+                subst (λ (o : Option Decision). AgreesBy o (λ d. S q d × ((not same && f d) ≡ false)))
+                (sym (ap decision_at (at q) ∙ reopened_decision j m b (place_at t q)))
+                (dropped same j m b (decision_at (place_at t q)) (S q) f (is ∙ h) cause (k.stands q));
             right = λ q. subst (λ (v : Option Entry). Right pile (has (with_mark t.stock j m b)) v) (sym (at q))
                 (reopened_right pile (has t.stock) (has (with_mark t.stock j m b)) j m b set' (place_at t q) (k.right q));
             count = k.count;

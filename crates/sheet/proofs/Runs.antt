@@ -13,6 +13,8 @@ use Rattle.stock.specs.Stock.{has}
 use Rattle.search.specs.declared.decision.Decision.{Decision}
 use Rattle.search.specs.declared.decision.Decision.TheVariants as decision
 use Rattle.search.specs.Lightest.{Lightest}
+use Rattle.search.proofs.One.{one_decision}
+use Rattle.card.proofs.One.{only_beam}
 use Rattle.sheet.specs.declared.call.Call.{Call}
 use Rattle.sheet.specs.declared.call.Call.TheVariants as call
 use Rattle.sheet.specs.declared.entry.Entry.{Entry}
@@ -22,13 +24,13 @@ use Rattle.sheet.specs.declared.reading.Shown.TheVariants as shown
 use Rattle.sheet.specs.declared.refusal.Refusal.{Refusal}
 use Rattle.sheet.specs.declared.refusal.Refusal.TheVariants.{NoSuchPlace, PlaceEmpty, NothingInStock, NoSuchMark}
 use Rattle.sheet.specs.declared.table.Table.{Table}
-use Rattle.sheet.specs.Places.{beam_of, opened, decided, shown_of, shown_by}
+use Rattle.sheet.specs.Places.{beam_of, opened, decided, doubtful, shown_of, shown_by}
 use Rattle.sheet.specs.Table.{place_at, with_place, restocked, settled}
 use Rattle.sheet.specs.Calls.{at_place, why, is_known, Takes, Does, Makes, Reads}
-use Rattle.sheet.specs.History.{in_after, stocked_after, card_by, card_after, why_after, in_by_number, decided_by, decided_after, designs_by, designs_after, IsBeamAfter}
+use Rattle.sheet.specs.History.{in_after, stocked_after, card_by, card_after, why_after, in_by_number, If, doubts, StandsBy, Stands, designs_by, designs_after, IsBeamAfter}
 use Rattle.sheet.specs.Law.{IsRight, IsDecided, IsDecidedByDesign, Lawful}
 use Rattle.sheet.specs.Runs.{Run, opened as run_opened, made, Grows, ReadsLawfully, CountsDesigns}
-use Rattle.sheet.proofs.Kept.{Holds, IsDecidedWell, Right, is_decided, KeptBy, Kept, both, unless, also, swapped, all_alike, same_why, marked, written, restocked_kept}
+use Rattle.sheet.proofs.Kept.{Holds, IsDecidedWell, Right, decision_at, AgreesBy, KeptBy, Kept, both, ended, same_beam, swapped, none_some, all_alike, same_why, marked, written, restocked_kept}
 
 -- a refused call sets no mark
 unset : (kind mark : ℕ) (k : Kind) (m : ℕ) → is_known kind mark ≡ false → (kind == kind_number k && (mark == m && known k m)) ≡ false
@@ -89,37 +91,61 @@ there p o h = go (nat_lt 63 p) refl
 one_more : (n m : ℕ) → n ≡ min m 4294967295 → min (n + 1) 4294967295 ≡ min (suc m) 4294967295
 one_more n m e = omega (arith, e)
 
+-- the beam at a place that holds the beam of its card
+beam_held : (c : Option (List ℕ)) (held : Option Entry) (b : Beam) → Holds c held → beam_of held ≡ Some b → (card : List ℕ) × ((c ≡ Some card) × CardAs card (Ok b))
+beam_held (Some card) (Some x) b h e = (card, (refl, same_beam (λ card b. CardAs card (Ok b)) card x.beam b e h))
+beam_held None None b h e = absurd (none_some b e)
+beam_held (Some card) None b h e = absurd h
+beam_held None (Some x) b h e = absurd h
+
+-- two beams of one card, and two decisions that are right for it
+same_card : (c d : List ℕ) (o : Option (List ℕ)) → o ≡ Some c → o ≡ Some d → c ≡ d
+same_card c d o e f = cc
+
+module _ (pile : Beam → Cage → ℕ) (calls : List Call) (p : ℕ) where
+  one_beam : (b c : Beam) → IsBeamAfter calls p b → IsBeamAfter calls p c → c ≡ b
+  one_beam b c h k =
+      only_beam h.0 (Ok b) h.1.1 c (subst (λ (v : List ℕ). CardAs v (Ok c)) (same_card k.0 h.0 (card_after calls p) k.1.0 h.1.0) k.1.1)
+
+  one_right : (b : Beam) (d e : Decision) → IsBeamAfter calls p b → Lightest pile (in_after calls) b d
+      → (c : Beam) × (IsBeamAfter calls p c × Lightest pile (in_after calls) c e) → e ≡ d
+  one_right b d e is l other =
+      one_decision pile (in_after calls) b e d (subst (λ (v : Beam). Lightest pile (in_after calls) v e) (one_beam b other.0 is other.1.0) other.1.1) l
+
 module _ (pile : Beam → Cage → ℕ) (calls : List Call) (t : Table) (k : Kept pile calls t) where
   -- what holds after a call that is not refused
   abbrev After : Call → Table → Type 0
   After c t' =
-      KeptBy pile (λ q. card_by c q (card_after calls q)) (in_after (c ∷ calls)) (λ q. decided_by calls c q (decided_after calls q))
+      KeptBy pile (λ q. card_by c q (card_after calls q)) (in_after (c ∷ calls)) (λ q d. StandsBy pile calls c q d (Stands pile calls q d))
       (designs_by c (designs_after calls)) t'
 
   -- a card is taken to a place
   takes : (p : ℕ) (card : List ℕ) (t' : Table) → p ≤ 63 → Takes p card t t'
-      → KeptBy pile (λ q. cond (p == q) (Some card) (card_after calls q)) (in_after calls) (λ q. not (p == q) && decided_after calls q) (designs_after calls) t'
+      → KeptBy pile (λ q. cond (p == q) (Some card) (card_after calls q)) (in_after calls) (λ q d. If (p == q) ⊥ (Stands pile calls q d)) (designs_after calls) t'
   takes p card t' h (b, (c, e)) =
-      subst (λ (v : Table). KeptBy pile (λ q. cond (p == q) (Some card) (card_after calls q)) (in_after calls) (λ q. not (p == q) && decided_after calls q) (designs_after calls) v) (sym e)
+      subst (λ (v : Table). KeptBy pile (λ q. cond (p == q) (Some card) (card_after calls q)) (in_after calls) (λ q d. If (p == q) ⊥ (Stands pile calls q d)) (designs_after calls) v) (sym e)
       (written k p h (Some (opened b)) tt _
       (λ q. both (λ card b. CardAs card (Ok b)) (p == q) (Some card) (card_after calls q) (Some (opened b)) (place_at t q) c (k.holds q)) _
-      (λ q. unless (p == q) (decided_after calls q) (Some (opened b)) (place_at t q) (k.shows q)) (designs_after calls) t.count k.count)
+      (λ q. ended (p == q) (Stands pile calls q) (Some (opened b)) (place_at t q) refl (k.stands q)) (designs_after calls) t.count k.count)
 
   empties : (p : ℕ) (t' : Table) → p ≤ 63 → t' ≡ with_place t p None
-      → KeptBy pile (λ q. cond (p == q) None (card_after calls q)) (in_after calls) (λ q. not (p == q) && decided_after calls q) (designs_after calls) t'
+      → KeptBy pile (λ q. cond (p == q) None (card_after calls q)) (in_after calls) (λ q d. If (p == q) ⊥ (Stands pile calls q d)) (designs_after calls) t'
   empties p t' h e =
-      subst (λ (v : Table). KeptBy pile (λ q. cond (p == q) None (card_after calls q)) (in_after calls) (λ q. not (p == q) && decided_after calls q) (designs_after calls) v) (sym e)
+      subst (λ (v : Table). KeptBy pile (λ q. cond (p == q) None (card_after calls q)) (in_after calls) (λ q d. If (p == q) ⊥ (Stands pile calls q d)) (designs_after calls) v) (sym e)
       (written k p h None tt _
       (λ q. both (λ card b. CardAs card (Ok b)) (p == q) None (card_after calls q) None (place_at t q) tt (k.holds q)) _
-      (λ q. unless (p == q) (decided_after calls q) None (place_at t q) (k.shows q)) (designs_after calls) t.count k.count)
+      (λ q. ended (p == q) (Stands pile calls q) None (place_at t q) refl (k.stands q)) (designs_after calls) t.count k.count)
+
+  -- a design order makes this decision, and no other, at this place
+  abbrev Designed : ℕ → ℕ → Decision → Type 0
+  Designed p q d = If (p == q) ((b : Beam) × (IsBeamAfter calls q b × Lightest pile (in_after calls) b d)) (Stands pile calls q d)
 
   settles : (p : ℕ) (b : Beam) (d : Decision) (t' : Table) → p ≤ 63 → beam_of (place_at t p) ≡ Some b → Lightest pile (has t.stock) b d → t' ≡ settled p b d t
-      → KeptBy pile (card_after calls) (in_after calls) (λ q. p == q || decided_after calls q) (suc (designs_after calls)) t'
+      → KeptBy pile (card_after calls) (in_after calls) (Designed p) (suc (designs_after calls)) t'
   settles p b d t' h is l e =
-      subst (λ (v : Table). KeptBy pile (card_after calls) (in_after calls) (λ q. p == q || decided_after calls q) (suc (designs_after calls)) v) (sym e)
-      (written k p h (Some (decided b d)) l (card_after calls) (λ q. here q (p == q) refl) _
-      (λ q. also (p == q) (decided_after calls q) (Some (decided b d)) (place_at t q) refl (k.shows q)) (suc (designs_after calls)) (min (t.count + 1) 4294967295)
-      (one_more t.count (designs_after calls) k.count))
+      subst (λ (v : Table). KeptBy pile (card_after calls) (in_after calls) (Designed p) (suc (designs_after calls)) v) (sym e)
+      (written k p h (Some (decided b d)) l (card_after calls) (λ q. here q (p == q) refl) (Designed p) (λ q. decides q (p == q) refl) (suc (designs_after calls))
+      (min (t.count + 1) 4294967295) (one_more t.count (designs_after calls) k.count))
     where
       here : (q : ℕ) (v : Bool) → (p == q) ≡ v → Holds (card_after calls q) (cond v (Some (decided b d)) (place_at t q))
       here q true i =
@@ -127,18 +153,36 @@ module _ (pile : Beam → Cage → ℕ) (calls : List Call) (t : Table) (k : Kep
           (swapped (λ card b. CardAs card (Ok b)) (card_after calls p) (place_at t p) b d (k.holds p) is)
       here q false i = k.holds q
 
+      beam_here : IsBeamAfter calls p b
+      beam_here = beam_held (card_after calls p) (place_at t p) b (k.holds p) is
+
+      right_now : Lightest pile (in_after calls) b d
+      right_now = subst (λ (g : Kind → ℕ → Bool). Lightest pile g b d) (marked pile calls t k) l
+
+      decides : (q : ℕ) (v : Bool) → (p == q) ≡ v
+          → AgreesBy (decision_at (cond v (Some (decided b d)) (place_at t q)))
+              (λ e. If v ((c : Beam) × (IsBeamAfter calls q c × Lightest pile (in_after calls) c e)) (Stands pile calls q e))
+      decides q true i =
+          subst (λ (j : ℕ). AgreesBy (Some d) (λ e. (c : Beam) × (IsBeamAfter calls j c × Lightest pile (in_after calls) c e))) (eqb-true p q i)
+          ((b, (beam_here, right_now)), λ e s. one_right pile calls p b d e beam_here right_now s)
+      decides q false i = k.stands q
+
   restocks : (kind mark : ℕ) (b : Bool) (t' : Table) → is_known kind mark ≡ true → (j : Kind) → kind ≡ kind_number j → t' ≡ restocked j mark b t
       → After (call.Stock kind mark b) t'
   restocks kind mark b t' fine j is e =
       subst (λ (v : Table). After (call.Stock kind mark b) v) (sym e)
       (subst (λ (n : ℕ). After (call.Stock n mark b) (restocked j mark b t)) (sym is)
-      (restocked_kept k j mark b known_it (beq (in_by_number calls (kind_number j) mark) b) same))
+      (restocked_kept k j mark b known_it (beq (in_by_number calls (kind_number j) mark) b) same (doubts (kind_number j) mark b) (cause j)))
     where
       known_it : known j mark ≡ true
       known_it = sym (known_by_number j mark) ∙ ap (λ n. is_known n mark) (sym is) ∙ fine
 
-      same : beq (in_by_number calls (kind_number j) mark) b ≡ true → beq (has t.stock j mark) b ≡ true
-      same h = ap (λ v. beq v b) (k.marks j mark ∙ sym (in_by_its_number calls j mark)) ∙ h
+      same : beq (in_by_number calls (kind_number j) mark) b ≡ beq (has t.stock j mark) b
+      same = ap (λ v. beq v b) (in_by_its_number calls j mark ∙ sym (k.marks j mark))
+
+      cause : (i : Kind) (d : Decision) → doubts (kind_number i) mark b d ≡ doubtful i mark b d
+      cause Main d = or_nothing (doubtful Main mark b d)
+      cause Tie d = refl
 
   unchanged : (t' : Table) → t' ≡ t → Kept pile calls t'
   unchanged t' e = subst (λ (v : Table). Kept pile calls v) (sym e) k
@@ -153,21 +197,19 @@ module _ (pile : Beam → Cage → ℕ) (calls : List Call) (t : Table) (k : Kep
   done call.Count t' w d = unchanged t' d
 
   -- what holds after a call, refused or not
+  abbrev Outcome : Call → Table → Option Refusal → Type 0
+  Outcome c t' o =
+      KeptBy pile (λ q. cond (is_none o) (card_by c q (card_after calls q)) (card_after calls q)) (in_after (c ∷ calls))
+      (λ q d. If (is_none o) (StandsBy pile calls c q d (Stands pile calls q d)) (Stands pile calls q d))
+      (cond (is_none o) (designs_by c (designs_after calls)) (designs_after calls)) t'
+
   after : (c : Call) (t' : Table) (o : Option Refusal) → why_after calls c ≡ o → Makes pile t c o t' → Kept pile (c ∷ calls) t'
-  after c t' o w m =
-      subst
-      (λ (o : Option Refusal). KeptBy pile (λ q. cond (is_none o) (card_by c q (card_after calls q)) (card_after calls q)) (in_after (c ∷ calls))
-      (λ q. cond (is_none o) (decided_by calls c q (decided_after calls q)) (decided_after calls q))
-      (cond (is_none o) (designs_by c (designs_after calls)) (designs_after calls)) t')
-      (sym w) (go o w m)
+  after c t' o w m = subst (λ (o : Option Refusal). Outcome c t' o) (sym w) (go o w m)
     where
-      go : (o : Option Refusal) → why_after calls c ≡ o → Makes pile t c o t'
-          → KeptBy pile (λ q. cond (is_none o) (card_by c q (card_after calls q)) (card_after calls q)) (in_after (c ∷ calls))
-          (λ q. cond (is_none o) (decided_by calls c q (decided_after calls q)) (decided_after calls q))
-          (cond (is_none o) (designs_by c (designs_after calls)) (designs_after calls)) t'
+      go : (o : Option Refusal) → why_after calls c ≡ o → Makes pile t c o t' → Outcome c t' o
       go None w m = done c t' w m.1
       go (Some e) w m =
-          subst (λ (g : Kind → ℕ → Bool). KeptBy pile (card_after calls) g (decided_after calls) (designs_after calls) t')
+          subst (λ (g : Kind → ℕ → Bool). KeptBy pile (card_after calls) g (Stands pile calls) (designs_after calls) t')
           (fun_ext (λ j. fun_ext (λ n. in_refused calls c e w j n))) (unchanged t' m.1)
 
 why_is : (pile : Beam → Cage → ℕ) (t : Table) (c : Call) (o : Option Refusal) (t' : Table) → Makes pile t c o t' → why t c ≡ o
@@ -184,7 +226,7 @@ kept {pile} {t = t} (run_opened n) =
       ties = ap length n.2;
       holds = λ q. subst (λ (v : Option Entry). Holds None v) (sym (at q)) tt;
       marks = λ j m. none_in j m;
-      shows = λ q e. absurd (false≢true e);
+      stands = λ q. subst (λ (v : Option Entry). AgreesBy (decision_at v) (λ d. ⊥)) (sym (at q)) (λ d s. s);
       right = λ q. subst (λ (v : Option Entry). Right pile (has t.stock) v) (sym (at q)) tt;
       count = n.3;
     }
@@ -207,25 +249,25 @@ grows pile t c o t' m = λ calls run. (made c o run m, sym (same_why pile calls 
 -- what a place shows is right, by what it holds
 module _ (pile : Beam → Cage → ℕ) (calls : List Call) (p : ℕ) where
   by_decision : (b : Beam) → IsBeamAfter calls p b → (o : Option Decision) → IsDecidedWell pile (in_after calls) b o
-      → (decided_after calls p ≡ true → is_some o ≡ true) → IsRight pile calls p (shown_by o)
-  by_decision b is None r s = (false_from_ne_true (decided_after calls p) (λ e. false≢true (s e)), (b, is))
-  by_decision b is (Some (decision.Chosen x)) r s = (b, (is, r))
-  by_decision b is (Some (decision.Impossible n)) r s = (b, (is, r))
+      → AgreesBy o (Stands pile calls p) → IsRight pile calls p (shown_by o)
+  by_decision b is None r s = ((b, is), s)
+  by_decision b is (Some (decision.Chosen x)) r s = ((b, (is, r)), s.0)
+  by_decision b is (Some (decision.Impossible n)) r s = ((b, (is, r)), s.0)
 
   by_holding : (c : Option (List ℕ)) → card_after calls p ≡ c → (held : Option Entry) → Holds c held → Right pile (in_after calls) held
-      → (decided_after calls p ≡ true → is_decided held ≡ true) → IsRight pile calls p (shown_of held)
+      → AgreesBy (decision_at held) (Stands pile calls p) → IsRight pile calls p (shown_of held)
   by_holding None e None h r s = e
   by_holding (Some card) e (Some x) h r s = by_decision x.beam (card, (e, h)) x.decision r s
   by_holding None e (Some x) h r s = absurd h
   by_holding (Some card) e None h r s = absurd h
 
   -- where a decision stands, the place is decided
-  decided_right : (s : Shown) → decided_after calls p ≡ true → is_some (card_after calls p) ≡ true → IsRight pile calls p s
+  decided_right : (s : Shown) (d : Decision) → Stands pile calls p d → is_some (card_after calls p) ≡ true → IsRight pile calls p s
       → (b : Beam) × (IsBeamAfter calls p b × IsDecided pile (in_after calls) b s)
-  decided_right shown.Empty d c r = absurd (false≢true (sym (ap is_some r) ∙ c))
-  decided_right shown.Open d c r = absurd (false≢true (sym r.0 ∙ d))
-  decided_right (shown.Chosen x) d c r = (r.0, (r.1.0, λ none. none x.cage r.1.1.0 r.1.1.1))
-  decided_right (shown.Impossible n) d c r = (r.0, (r.1.0, λ c f passes. (r.1.1.0 c f).0 passes))
+  decided_right shown.Empty d h c r = absurd (false≢true (sym (ap is_some r) ∙ c))
+  decided_right shown.Open d h c r = absurd (r.1 d h)
+  decided_right (shown.Chosen x) d h c r = (r.0.0, (r.0.1.0, λ none. none x.cage r.0.1.1.0 r.0.1.1.1))
+  decided_right (shown.Impossible n) d h c r = (r.0.0, (r.0.1.0, λ c f passes. (r.0.1.1.0 c f).0 passes))
 
 -- a design order that is not refused has a card there
 designed_card : (calls : List Call) (p : ℕ) → why_after calls (call.Design p) ≡ None → is_some (card_after calls p) ≡ true
@@ -236,20 +278,32 @@ designed_card calls p w = go (nat_lt 63 p) (is_some (card_after calls p)) w
     go false true e = refl
     go false false e = absurd (no_cause (sym e))
 
-by_design : (pile : Beam → Cage → ℕ) (calls : List Call) (p : ℕ) (s : Shown) → IsRight pile calls p s → IsDecidedByDesign pile calls p s
-by_design pile (call.Design q ∷ calls) p s r =
+-- and makes a decision that stands
+designed : (pile : Beam → Cage → ℕ) (calls : List Call) (p : ℕ) (t t' : Table) (o : Option Refusal) → Run pile calls t → Makes pile t (call.Design p) o t'
+    → why_after calls (call.Design p) ≡ None → (d : Decision) × Stands pile (call.Design p ∷ calls) p d
+designed pile calls p t t' None run m w =
+    let k = kept run in
+    let b = m.1.0 in
+    let d = m.1.1.0 in
+    let is = beam_held (card_after calls p) (place_at t p) b (k.holds p) m.1.1.1.0 in
+    let l = subst (λ (g : Kind → ℕ → Bool). Lightest pile g b d) (marked pile calls t k) m.1.1.1.1 in
+    (d, rw (w, eq-eqb p p refl) (b, (is, l)))
+designed pile calls p t t' (Some e) run m w = absurd (no_cause (sym w ∙ sym (same_why pile calls t (kept run) (call.Design p)) ∙ m.0))
+
+by_design : (pile : Beam → Cage → ℕ) (calls : List Call) (t : Table) → Run pile calls t → (p : ℕ) (s : Shown) → IsRight pile calls p s → IsDecidedByDesign pile calls p s
+by_design pile (call.Design q ∷ calls) t (made c o run m) p s r =
     λ same w.
-    let d : decided_after (call.Design q ∷ calls) p ≡ true = rw (w, eq-eqb q p same) refl in
-    let c : is_some (card_after (call.Design q ∷ calls) p) ≡ true = rw w (ap (λ j. is_some (card_after calls j)) (sym same) ∙ designed_card calls q w) in
-    decided_right pile (call.Design q ∷ calls) p s d c r
-by_design pile calls p s r = tt
+    let d = designed pile calls q _ t o run m w in
+    let there : is_some (card_after (call.Design q ∷ calls) p) ≡ true = rw w (ap (λ j. is_some (card_after calls j)) (sym same) ∙ designed_card calls q w) in
+    decided_right pile (call.Design q ∷ calls) p s d.0 (subst (λ (j : ℕ). Stands pile (call.Design q ∷ calls) j d.0) same d.1) there r
+by_design pile calls t run p s r = tt
 
 pub lawful : (pile : Beam → Cage → ℕ) (calls : List Call) (t : Table) → Run pile calls t → (p : ℕ) → Lawful pile calls p (shown_of (place_at t p))
 lawful pile calls t run p =
     let k = kept run in
     let r = by_holding pile calls p (card_after calls p) refl (place_at t p) (k.holds p)
-    (subst (λ (g : Kind → ℕ → Bool). Right pile g (place_at t p)) (marked pile calls t k) (k.right p)) (k.shows p) in
-    record { right = r; decided = by_design pile calls p _ r }
+      (subst (λ (g : Kind → ℕ → Bool). Right pile g (place_at t p)) (marked pile calls t k) (k.right p)) (k.stands p) in
+    record { right = r; decided = by_design pile calls t run p _ r }
 
 -- so a reading is lawful, and the count is that of the designs
 pub reads_lawfully : (pile : Beam → Cage → ℕ) (t : Table) (p : ℕ) (r : Result Reading Refusal) → Reads p t r → ReadsLawfully pile t p r

@@ -1,16 +1,20 @@
 -- What a list of calls, the newest first, has made of places, stock and count: in words of the calls alone.
-use Rattle.std.specs.Prelude.{◌≡◌, ℕ, suc, Bool, false, cond, not, ◌&&◌, ◌||◌, List, [], ◌∷◌, Some, None, Ok, Option, is_some, is_none, ◌==◌}
+use Rattle.std.specs.Prelude.{◌≡◌, ℕ, suc, Bool, false, cond, not, ◌&&◌, ◌||◌, List, [], ◌∷◌, Some, None, Ok, Option, is_some, is_none, ◌==◌, true}
 use Rattle.std.specs.Bool.{beq}
 use Rattle.std.specs.List.{list_any}
 use Rattle.rebar.specs.declared.beam.Beam.{Beam}
+use Rattle.rebar.specs.declared.cage.Cage.{Cage}
 use Rattle.card.specs.Card.{CardAs}
 use Rattle.stock.specs.declared.kind.Kind.{Kind}
 use Rattle.stock.specs.declared.kind.Kind.TheVariants.{Main, Tie}
 use Rattle.stock.specs.Kinds.{kind_number, known}
+use Rattle.search.specs.declared.decision.Decision.{Decision}
+use Rattle.search.specs.Lightest.{Lightest}
 use Rattle.sheet.specs.declared.call.Call.{Call}
 use Rattle.sheet.specs.declared.call.Call.TheVariants.{Enter, Correct, Strike, Stock, Design}
 use Rattle.sheet.specs.declared.refusal.Refusal.{Refusal}
 use Rattle.sheet.specs.Calls.{why_refused}
+use Rattle.sheet.specs.Places.{doubtful}
 
 -- whether a mark is in: the last stock order for that kind and mark set it in. An order for a mark that is not known in its
 -- kind is refused
@@ -53,21 +57,30 @@ IsBeamAfter calls p b = (card : List ℕ) × ((card_after calls p ≡ Some card)
 abbrev pub in_by_number : List Call → ℕ → ℕ → Bool
 in_by_number calls kind mark = (kind == 0 && in_after calls Main mark) || (kind == 1 && in_after calls Tie mark)
 
--- whether a decision at a place still stands after a call that is not refused, by whether it stood before: a stock order
--- that sets a mark as it was alters nothing
-abbrev pub decided_by : List Call → Call → ℕ → Bool → Bool
-decided_by calls (Enter p card) q before = not (p == q) && before
-decided_by calls (Correct p card) q before = not (p == q) && before
-decided_by calls (Strike p) q before = not (p == q) && before
-decided_by calls (Stock kind mark is-in) q before = beq (in_by_number calls kind mark) is-in && before
-decided_by calls (Design p) q before = p == q || before
-decided_by calls call q before = before
+-- whether a stock order, of the kind with this number, gives cause to decide again
+abbrev pub doubts : ℕ → ℕ → Bool → Decision → Bool
+doubts kind mark is-in d = (kind == 0 && doubtful Main mark is-in d) || (kind == 1 && doubtful Tie mark is-in d)
 
--- whether a place was designed, and no call since has given cause to decide on it again
-abbrev pub decided_after : List Call → ℕ → Bool
-decided_after [] q = false
-decided_after (call ∷ calls) q =
-    cond (is_none (why_after calls call)) (decided_by calls call q (decided_after calls q)) (decided_after calls q)
+-- one fact where a test passes, another where it does not
+abbrev pub If : Bool → Type 0 → Type 0 → Type 0
+If true A B = A
+If false A B = B
+
+-- a decision of a place stands after a call that is not refused, where `Before` says whether it stood: a design order of the
+-- place makes the decision that is right for the beam there and the marks in stock; a card that is taken there, a strike, and a
+-- stock order that alters a mark and gives cause end it
+abbrev pub StandsBy : (Beam → Cage → ℕ) → List Call → Call → ℕ → Decision → Type 0 → Type 0
+StandsBy pile calls (Enter p card) q d Before = If (p == q) ⊥ Before
+StandsBy pile calls (Correct p card) q d Before = If (p == q) ⊥ Before
+StandsBy pile calls (Strike p) q d Before = If (p == q) ⊥ Before
+StandsBy pile calls (Stock kind mark is-in) q d Before = Before × ((not (beq (in_by_number calls kind mark) is-in) && doubts kind mark is-in d) ≡ false)
+StandsBy pile calls (Design p) q d Before = If (p == q) ((b : Beam) × (IsBeamAfter calls q b × Lightest pile (in_after calls) b d)) Before
+StandsBy pile calls call q d Before = Before
+
+-- the decision of a place that stands; refused calls count for nothing
+abbrev pub Stands : (Beam → Cage → ℕ) → List Call → ℕ → Decision → Type 0
+Stands pile [] q d = ⊥
+Stands pile (call ∷ calls) q d = If (is_none (why_after calls call)) (StandsBy pile calls call q d (Stands pile calls q d)) (Stands pile calls q d)
 
 -- how many design orders there are with this one more
 abbrev pub designs_by : Call → ℕ → ℕ

@@ -4,6 +4,7 @@ use Rattle.rebar.specs.declared.beam.Beam.{Beam}
 use Rattle.rebar.specs.declared.cage.Cage.{Cage}
 use Rattle.books.specs.Answers.{Passes}
 use Rattle.stock.specs.declared.kind.Kind.{Kind}
+use Rattle.search.specs.declared.decision.Decision.{Decision}
 use Rattle.search.specs.declared.decision.Decision.TheVariants as decision
 use Rattle.search.specs.Lightest.{FromStock, Lightest}
 use Rattle.sheet.specs.declared.call.Answer.{Answer}
@@ -14,15 +15,20 @@ use Rattle.sheet.specs.declared.call.Exchange.{Exchange}
 use Rattle.sheet.specs.declared.reading.Shown.{Shown}
 use Rattle.sheet.specs.declared.reading.Shown.TheVariants.{Empty, Open, Chosen, Impossible}
 use Rattle.sheet.specs.declared.refusal.Refusal.{Refusal}
-use Rattle.sheet.specs.History.{card_after, IsBeamAfter, in_after, decided_after, designs_after, why_after}
+use Rattle.sheet.specs.History.{card_after, IsBeamAfter, in_after, Stands, designs_after, why_after}
 
--- what a place shows is right: it is empty where no card lies there; open only while nothing is decided; a chosen cage is the
--- lightest from stock that the pile passes for the beam there, with its own steel; and where it is impossible none passes
+-- a decision stands, and is right for the beam there and the marks that are in stock now
+abbrev pub IsDecidedAs : (Beam → Cage → ℕ) → List Call → ℕ → Decision → Type 0
+IsDecidedAs pile calls p d = ((b : Beam) × (IsBeamAfter calls p b × Lightest pile (in_after calls) b d)) × Stands pile calls p d
+
+-- what a place shows is right: it is empty where no card lies there; open where a card lies there and no decision stands; a
+-- chosen cage stands as the decision, and is the lightest from stock that the pile passes for the beam there, with its own steel;
+-- and where it is impossible that stands, and none passes
 abbrev pub IsRight : (Beam → Cage → ℕ) → List Call → ℕ → Shown → Type 0
 IsRight pile calls p Empty = card_after calls p ≡ None
-IsRight pile calls p Open = (decided_after calls p ≡ false) × ((b : Beam) × IsBeamAfter calls p b)
-IsRight pile calls p (Chosen x) = (b : Beam) × (IsBeamAfter calls p b × Lightest pile (in_after calls) b (decision.Chosen x))
-IsRight pile calls p (Impossible n) = (b : Beam) × (IsBeamAfter calls p b × Lightest pile (in_after calls) b (decision.Impossible n))
+IsRight pile calls p Open = ((b : Beam) × IsBeamAfter calls p b) × ((d : Decision) → Stands pile calls p d → ⊥)
+IsRight pile calls p (Chosen x) = IsDecidedAs pile calls p (decision.Chosen x)
+IsRight pile calls p (Impossible n) = IsDecidedAs pile calls p (decision.Impossible n)
 
 -- no cage from stock passes
 abbrev pub NonePasses : (Beam → Cage → ℕ) → (Kind → ℕ → Bool) → Beam → Type 0
