@@ -20,6 +20,7 @@ pub struct Frame<B> {
 
 impl Face<'_> {
     // The probable moment of the face, in kg·mm.
+    #[tactic(auto, using(rebar::proofs::Rounding::rounded_up, crate::proofs::Products::spread))]
     fn probable_moment(&self) -> u64
         ensures is { result ≡ probable_moment self.now.beam.now.section self.now.beam.now.materials self.now.force self.now.depth }
         ensures small { result ≤ 5000000000 }

@@ -10,6 +10,7 @@ use rebar::cage::Cage;
 
 // A layer over any book: articles 41 to 43, what a yard bends. A face has at most so many bars, the ties stand at least so
 // many mm apart, and where `one_mark` isn't 0 both faces have bars of one mark. Any three numbers make such a layer.
+#[derive(Clone, Copy)]
 pub struct Yard<B> {
     pub below: B,
     pub most_bars: u32,
