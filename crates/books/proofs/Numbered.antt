@@ -1,5 +1,5 @@
 -- No article of the frame layer has the number 0, in a frame or not.
-use Rattle.std.proofs.Common.{◌≡◌, true, false, cond, [], ◌++◌, refl}
+use Rattle.std.proofs.Common.{◌≡◌, true, false, cond, [], refl}
 use Rattle.rebar.specs.declared.beam.Beam.{Beam}
 use Rattle.rebar.specs.declared.cage.Cage.{Cage}
 use Rattle.books.specs.General.{articles_for}

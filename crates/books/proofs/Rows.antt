@@ -1,15 +1,13 @@
 -- What the answer of the approved book says of its rows.
-use Rattle.std.proofs.Common.{◌≡◌, ◌≢◌, ℕ, ◌+◌, ◌≤◌, ◌<◌, Bool, true, false, cond, ◌&&◌, ◌||◌, eqb, leb, List, length, get_or, take, Decides, ◌↔◌, refl, sym, subst, arith, nat_eq}
-use Rattle.std.proofs.lemmas.Bool.{cases_Bool, leb-true, le-leb}
+use Rattle.std.proofs.Common.{◌≡◌, ℕ, ◌+◌, ◌≤◌, ◌<◌, Bool, true, false, cond, ◌||◌, leb, List, length, get_or, take, Decides, ◌↔◌, refl, sym, subst, arith}
+use Rattle.std.proofs.lemmas.Bool.{leb-true, le-leb}
 use Rattle.std.proofs.lemmas.Bool.Decides.{Decides-eqb, Decides-and, Decides-like, not_from_Decides}
 use Rattle.std.specs.List.{All, Any, list_any}
 use Rattle.std.proofs.lemmas.List.{get_or_default}
 use Rattle.std.proofs.lemmas.List.Folds.{Any-from_list_any, list_any-from_Any, list_any_more, list_any_at}
-use Rattle.std.specs.Cmp.Lexicographic.{pointwise}
 use Rattle.loads.specs.declared.actions.Actions.{Actions}
 use Rattle.rebar.specs.declared.beam.Beam.{Beam}
 use Rattle.rebar.specs.declared.cage.Cage.{Cage}
-use Rattle.rebar.specs.Order.{numbers}
 use Rattle.rebar.proofs.Dictionary.{same_cage_exactly}
 use Rattle.books.specs.declared.approved_row.ApprovedRow.{ApprovedRow}
 use Rattle.books.specs.Approved.{IsFor, Allows, is_for, allows, approves, approved_answer, NoneIsFor, NoneOfThemAllows, OneAllows}

@@ -1,5 +1,5 @@
 -- With main mark 11 alone article 4, or one before it, refuses every cage of the reference beam: the strain at two bars or more.
-use Rattle.std.proofs.Common.{◌≡◌, ◌≢◌, ℕ, ◌+◌, ◌-◌, ◌*◌, ◌≤◌, Bool, true, false, cond, ◌&&◌, leb, T, inl, inr, ⊎_elim, List, replicate, get_or, set, drop, refl, lit≤, arith}
+use Rattle.std.proofs.Common.{◌≡◌, ◌≢◌, ℕ, ◌-◌, ◌*◌, ◌≤◌, Bool, true, false, cond, ◌&&◌, leb, T, inl, ⊎_elim, replicate, get_or, set, drop, refl, lit≤, arith}
 use Rattle.std.proofs.lemmas.Bool.{cases_eq}
 use Rattle.std.proofs.lemmas.Bool.Decides.{nat_tests}
 use Rattle.std.proofs.lemmas.List.{get_or-set_other, get_or-replicate}
@@ -14,10 +14,10 @@ use Rattle.books.specs.Articles.{outer_row_fits, faces_apart, ductile}
 use Rattle.books.specs.General.{articles_for, general_answer}
 use Rattle.books.specs.Frame.{frame_answer}
 use Rattle.stock.specs.Kinds.{known}
-use Rattle.stock.specs.declared.kind.Kind.TheVariants.{Main, Tie}
+use Rattle.stock.specs.declared.kind.Kind.TheVariants.{Main}
 use Rattle.stock.specs.Stock.{has}
 use Rattle.search.specs.declared.decision.Decision.TheVariants.{Impossible}
-use Rattle.search.specs.Lightest.{FromStock, Lightest}
+use Rattle.search.specs.Lightest.{Lightest}
 use Rattle.worked.specs.Reference.{reference_section, reference_materials, reference_beam}
 use Rattle.worked.specs.Worked.{bars, ties_at, cage, pile_answer, main_11_tie_3}
 

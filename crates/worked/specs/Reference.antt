@@ -1,5 +1,5 @@
 -- The reference beam: 300 by 500 mm, cover 40, concrete 210, steel 4200, span 5,000, dead and live load.
-use Rattle.std.specs.Prelude.{◌≡◌, ℕ, ◌≤◌, ◌%◌, Bool, true, T, nat_le, refl, ℤ, pos, negsuc}
+use Rattle.std.specs.Prelude.{◌≡◌, ℕ, Bool, true, T, nat_le, refl, ℤ, pos, negsuc}
 use Rattle.std.proofs.Common.{lit≤}
 use lib.Signed.{le_z, le_z_yes}
 use Rattle.loads.specs.declared.loads.Force.{Force}

@@ -1,5 +1,5 @@
 -- The worked examples of the reference beam.
-use Rattle.std.specs.Prelude.{◌≡◌, ℕ, ◌≤◌, ◌%◌, Bool, true, false, cond, T, nat_le, refl, List, [], ◌∷◌, replicate}
+use Rattle.std.specs.Prelude.{◌≡◌, ℕ, ◌%◌, Bool, true, false, cond, T, nat_le, refl, List, [], ◌∷◌, replicate}
 use Rattle.std.proofs.Common.{lit≤}
 use Rattle.loads.specs.declared.actions.Actions.{Actions}
 use Rattle.loads.specs.Actions.{ActionsOf}

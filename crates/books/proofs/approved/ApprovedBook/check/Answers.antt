@@ -1,8 +1,6 @@
-use Rattle.std.proofs.Common.{rules, ◌≡◌, ◌∙◌, ℕ, true, sym, subst, ap, ◌+◌, arith, take, length, cond}
+use Rattle.std.proofs.Common.{rules, ◌≡◌, ◌∙◌, true, sym, subst, ap, ◌+◌, arith, take, cond}
 use Rattle.std.proofs.lemmas.List.{take_all}
-use Rattle.rebar.specs.declared.beam.Beam.{Beam}
-use Rattle.rebar.specs.declared.cage.Cage.{Cage}
-use Rattle.books.specs.Approved.{IsFor, Allows, approved_answer}
+use Rattle.books.specs.Approved.{IsFor, Allows}
 use Rattle.books.proofs.Rows.{told, At, Seen, passed_over, refused, found, ended}
 use Rattle.books.proofs.approved.ApprovedBook.check.Goals as goal
 use Rattle.books.proofs.approved.ApprovedBook.check.Goals.{then-is_for+else-allows, else-is_for}

@@ -1,4 +1,4 @@
-use Rattle.std.proofs.Common.{◌≡◌, ℕ, true, rules}
+use Rattle.std.proofs.Common.{◌≡◌, rules}
 use Rattle.books.specs.Rules.{over}
 use Rattle.books.specs.Frame.{frame_articles_for, frame_answer}
 use Rattle.books.proofs.Reflect.{tells_over}

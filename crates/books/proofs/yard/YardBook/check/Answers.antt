@@ -1,5 +1,4 @@
-use Rattle.std.proofs.Common.{◌≡◌, ◌∙◌, ℕ, refl, sym, rules}
-use Rattle.books.specs.Rules.{first_broken, over}
+use Rattle.std.proofs.Common.{◌≡◌, ◌∙◌, refl, sym, rules}
 use Rattle.books.specs.Yard.{yard_articles, yard_answer}
 use Rattle.books.proofs.Reflect.{own_answer, lower_answer, tells_over}
 use Rattle.books.proofs.yard.YardBook.check.Goals as goal
