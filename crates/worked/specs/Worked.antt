@@ -27,6 +27,7 @@ bars n mark a b c d = record { mark = mark; number = n; marked = (lit≤ c, lit�
 abbrev pub ties_at : (s : ℕ) → T (nat_le 50 s) → T (nat_le s 600) → s % 25 ≡ 0 → Ties
 ties_at s a b c = record { mark = 3; spacing = s; marked = (lit≤ tt, lit≤ tt); spaced = (lit≤ a, lit≤ b, c) }
 
+-- the faces of the examples: so many #5 bars
 abbrev pub two : Bars
 two = bars 2 5 tt tt tt tt
 
@@ -36,6 +37,7 @@ three = bars 3 5 tt tt tt tt
 abbrev pub four : Bars
 four = bars 4 5 tt tt tt tt
 
+-- a cage of a bottom, a top and ties
 abbrev pub cage : Bars → Bars → Ties → Cage
 cage b t s = record { bottom = b; top = t; ties = s }
 
@@ -46,9 +48,11 @@ pub record Example : Type 0 where
   pub cage : Cage
   pub answer : ℕ
 
+-- an example of these four
 abbrev pub example : Bool → Actions → Cage → ℕ → Example
 example f a c n = record { in_frame = f; actions = a; cage = c; answer = n }
 
+-- the ten answers: two with a bottom moment put in, two in the frame
 abbrev pub examples : List Example
 examples =
     example false reference_actions (cage three four (ties_at 200 tt tt refl)) 0
@@ -70,6 +74,7 @@ told e =
     over (first_broken (general reference_section reference_materials member e.actions e.cage))
     (cond e.in_frame (first_broken (frame reference_section reference_materials member e.actions e.cage)) 0)
 
+-- each answer is the expected one
 abbrev pub EveryTold : List Example → Type 0
 EveryTold [] = Unit {0}
 EveryTold (e ∷ es) = (told e ≡ e.answer) × EveryTold es
@@ -82,6 +87,7 @@ pile_answer b c = over (general_answer b c) (frame_answer b c)
 abbrev pub main_11_tie_3 : Stock
 main_11_tie_3 = with_mark (with_mark (record { main = replicate 9 false; tie = replicate 3 false }) Main 11 true) Tie 3 true
 
+-- the actions of the loads, the answers, the steel of two cages, and that main mark 11 makes the beam impossible with 4
 pub record WorkedExamples : Type 0 where
   pub actions : ActionsOf reference_loads reference_actions
   pub answers : EveryTold examples
