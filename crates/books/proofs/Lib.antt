@@ -1,2 +1,4 @@
 pub mod Products
 pub mod Reflect
+pub mod Rows
+pub mod Numbered

@@ -1,5 +1,5 @@
 -- A rule's test tells whether the rule holds, and so the first broken article of a list is what its name says.
-use Rattle.std.proofs.Common.{◌≡◌, ℕ, ◌<◌, Bool, true, false, ◌&&◌, ltb, cond, ◌⊎◌, List, [], ◌∷◌, ◌++◌, Decides, sym, refl, subst, inl, inr, ⊎_elim, arith}
+use Rattle.std.proofs.Common.{◌≡◌, ◌≢◌, ℕ, ◌<◌, Bool, true, false, ◌&&◌, ltb, cond, ◌⊎◌, List, [], ◌∷◌, ◌++◌, Decides, sym, refl, subst, inl, inr, ⊎_elim, arith}
 use Rattle.std.proofs.lemmas.Bool.{leb-true, le-leb, ltb-true, and_parts, cases_Bool}
 use Rattle.std.proofs.lemmas.Bool.Decides.{Decides-ltb, Decides-and, Decides-or, not_from_Decides, nat_tests}
 use Rattle.books.specs.Rules.{Rule, ◌≼◌, ◌≺◌, ◌and◌, ◌or◌, Holds, test, Article, first_broken, over, PassesExactly, RefusesExactly}
@@ -54,3 +54,27 @@ pub joined : (l r : List Article) → numbered l ≡ true → first_broken (l ++
 joined [] r n = refl
 joined (a ∷ rest) r n =
     let p = and_parts (ltb 0 a.number) (numbered rest) n in over_later (test a.rule) a.number _ _ _ p.0 (joined rest r p.1)
+
+-- how a layer answers: the lower answer comes first, and where it passes the layer's own
+pub own_answer : (lower own r : ℕ) → 0 ≡ lower → r ≡ own → r ≡ over lower own
+own_answer lower own r z e = grind (arith, nat_tests)
+
+pub lower_answer : (lower own r : ℕ) → r ≡ lower → r ≢ 0 → r ≡ over lower own
+lower_answer lower own r e ne = grind (arith, nat_tests)
+
+when_own : (lower own r : ℕ) → r ≡ over lower own → lower ≡ 0 → r ≡ own
+when_own lower own r e z = grind (arith, nat_tests)
+
+when_lower : (lower own r : ℕ) → r ≡ over lower own → lower ≢ 0 → r ≡ lower
+when_lower lower own r e ne = grind (arith, nat_tests)
+
+-- what such an answer says of the layer's own articles
+pub record TellsOver (lower : ℕ) (own : List Article) (r : ℕ) : Type 0 where
+  pub lower_first : lower ≢ 0 → r ≡ lower
+  pub passes : lower ≡ 0 → PassesExactly own r
+  pub refuses : lower ≡ 0 → RefusesExactly own r
+
+pub tells_over : (lower : ℕ) (own : List Article) (r : ℕ) → numbered own ≡ true → r ≡ over lower (first_broken own) → TellsOver lower own r
+tells_over lower own r n e =
+    let t : lower ≡ 0 → Tells own r = λ z. tells own r n (when_own lower _ r e z) in
+    record { lower_first = when_lower lower _ r e; passes = λ z. (t z).0; refuses = λ z. (t z).1 }

@@ -7,3 +7,5 @@ pub mod General
 pub mod Frame
 pub mod Faces
 pub mod Pile
+pub mod Yard
+pub mod Approved

@@ -1,8 +1,8 @@
-ghost use Rattle.std.specs.Prelude.{◌≡◌, ◌≤◌};
-ghost use Rattle.books.specs.Rules.{test, over, first_broken};
+ghost use Rattle.std.specs.Prelude.{◌≡◌, ◌≢◌, ◌≤◌};
+ghost use Rattle.books.specs.Rules.{test, over, first_broken, PassesExactly, RefusesExactly};
 ghost use Rattle.books.specs.Asked.{answer_of};
 ghost use Rattle.books.specs.Faces.{least_depth, shear_of_moments};
-ghost use Rattle.books.specs.Frame.{probable_moment, most_steel, half_below, close_in_frame, relied_on, in_frame_shear, frame, frame_answer};
+ghost use Rattle.books.specs.Frame.{probable_moment, most_steel, half_below, close_in_frame, relied_on, in_frame_shear, frame, frame_articles_for, frame_answer};
 
 use crate::article::{Broken, answer, ask};
 use crate::book::Book;
@@ -20,6 +20,7 @@ pub struct Frame<B> {
 
 impl Face<'_> {
     // The probable moment of the face, in kg·mm.
+    #[tactic(auto, using(rebar::proofs::Rounding::rounded_up, crate::proofs::Products::spread))]
     fn probable_moment(&self) -> u64
         ensures is { result ≡ probable_moment self.now.beam.now.section self.now.beam.now.materials self.now.force self.now.depth }
         ensures small { result ≤ 5000000000 }
@@ -116,7 +117,12 @@ fn ask_all(beam: &Beam, cage: &Cage) -> Result<(), Broken>
 impl<B: Book> Book for Frame<B> {
     ghost answer = { λ f beam cage. over (B.Book.answer f.below beam cage) (frame_answer beam cage) };
 
-    fn check(&self, beam: &Beam, cage: &Cage) -> u8 {
+    fn check(&self, beam: &Beam, cage: &Cage) -> u8
+        ensures answers_its_meaning { result ≡ over (B.answer self.now.below beam.now cage.now) (frame_answer beam.now cage.now) }
+        ensures lower_answer_comes_first { B.answer self.now.below beam.now cage.now ≢ 0 → result ≡ B.answer self.now.below beam.now cage.now }
+        ensures then_passes_exactly_when_every_article_holds { B.answer self.now.below beam.now cage.now ≡ 0 → PassesExactly (frame_articles_for beam.now cage.now) result }
+        ensures then_refusal_names_the_first_broken_article { B.answer self.now.below beam.now cage.now ≡ 0 → RefusesExactly (frame_articles_for beam.now cage.now) result }
+    {
         match self.below.check(beam, cage) {
             0 if beam.member.in_frame => answer(ask_all(beam, cage)),
             lower => lower,

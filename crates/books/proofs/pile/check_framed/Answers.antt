@@ -1,17 +1,13 @@
-use Rattle.std.proofs.Common.{◌≡◌, true, false, cond, [], ◌++◌, ◌∙◌, sym, refl}
+use Rattle.std.proofs.Common.{◌≡◌, ◌∙◌, sym, refl}
 use Rattle.rebar.specs.declared.beam.Beam.{Beam}
 use Rattle.rebar.specs.declared.cage.Cage.{Cage}
 use Rattle.books.specs.Rules.{first_broken, over}
 use Rattle.books.specs.General.{articles_for, general_answer}
-use Rattle.books.specs.Frame.{frame, frame_articles_for, frame_answer}
+use Rattle.books.specs.Frame.{frame_articles_for, frame_answer}
 use Rattle.books.specs.Pile.{framed_articles_for}
-use Rattle.books.proofs.Reflect.{numbered, joined, tells}
+use Rattle.books.proofs.Reflect.{joined, tells}
+use Rattle.books.proofs.Numbered.{both_numbered}
 use Rattle.books.proofs.pile.check_framed.Goals as goal
-
-both_numbered : (b : Beam) (c : Cage) → numbered (framed_articles_for b c) ≡ true
-unfolding framed_articles_for articles_for
-both_numbered b c =
-    elim b.member.in_frame as (λ t. numbered (articles_for b c ++ cond t (frame b.section b.materials b.member b.actions c) []) ≡ true) [ true ↦ refl | false ↦ refl ]
 
 one_list : (b : Beam) (c : Cage) → over (general_answer b c) (frame_answer b c) ≡ first_broken (framed_articles_for b c)
 unfolding framed_articles_for articles_for general_answer frame_answer

@@ -1,0 +1,68 @@
+ghost use Rattle.std.specs.Prelude.{◌≡◌, ◌≢◌};
+ghost use Rattle.books.specs.Rules.{test, over, first_broken, PassesExactly, RefusesExactly};
+ghost use Rattle.books.specs.Asked.{answer_of};
+ghost use Rattle.books.specs.Yard.{few_bars, wide_spacing, one_mark, yard_articles, yard_answer};
+
+use crate::article::{Broken, answer, ask};
+use crate::book::Book;
+use rebar::beam::Beam;
+use rebar::cage::Cage;
+
+// A layer over any book: articles 41 to 43, what a yard bends. A face has at most so many bars, the ties stand at least so
+// many mm apart, and where `one_mark` isn't 0 both faces have bars of one mark. Any three numbers make such a layer.
+#[derive(Clone, Copy)]
+pub struct Yard<B> {
+    pub below: B,
+    pub most_bars: u32,
+    pub least_spacing: u32,
+    pub one_mark: u32,
+}
+
+impl<B> Yard<B> {
+    // Whether neither face has too many bars.
+    fn has_few_bars(&self, cage: &Cage) -> bool
+        ensures { result ≡ test (few_bars self.now.most_bars cage.now) }
+    {
+        cage.bottom.number as u32 <= self.most_bars && cage.top.number as u32 <= self.most_bars
+    }
+
+    // Whether the ties stand far enough apart.
+    fn has_wide_spacing(&self, cage: &Cage) -> bool
+        ensures { result ≡ test (wide_spacing self.now.least_spacing cage.now.ties) }
+    {
+        self.least_spacing <= cage.ties.spacing as u32
+    }
+
+    // Whether the main bars are of one mark, where they have to be.
+    fn has_one_mark(&self, cage: &Cage) -> bool
+        ensures { result ≡ test (one_mark self.now.one_mark cage.now) }
+    {
+        self.one_mark == 0 || cage.bottom.mark == cage.top.mark
+    }
+
+    // Asks all articles of the layer.
+    #[tactic(auto, unfolding(crate::specs::Yard::yard_articles))]
+    fn ask_all(&self, cage: &Cage) -> Result<(), Broken>
+        ensures { answer_of result ≡ first_broken (yard_articles self.now.most_bars self.now.least_spacing self.now.one_mark cage.now) }
+    {
+        ask(41, self.has_few_bars(cage))?;
+        ask(42, self.has_wide_spacing(cage))?;
+        ask(43, self.has_one_mark(cage))
+    }
+}
+
+impl<B: Book> Book for Yard<B> {
+    ghost answer = { λ y beam cage. over (B.Book.answer y.below beam cage) (yard_answer y.most_bars y.least_spacing y.one_mark cage) };
+
+    fn check(&self, beam: &Beam, cage: &Cage) -> u8
+        ensures answers_its_meaning { result ≡ over (B.answer self.now.below beam.now cage.now) (yard_answer self.now.most_bars self.now.least_spacing self.now.one_mark cage.now) }
+        ensures lower_answer_comes_first { B.answer self.now.below beam.now cage.now ≢ 0 → result ≡ B.answer self.now.below beam.now cage.now }
+        ensures then_passes_exactly_when_every_article_holds { B.answer self.now.below beam.now cage.now ≡ 0 → PassesExactly (yard_articles self.now.most_bars self.now.least_spacing self.now.one_mark cage.now) result }
+        ensures then_refusal_names_the_first_broken_article { B.answer self.now.below beam.now cage.now ≡ 0 → RefusesExactly (yard_articles self.now.most_bars self.now.least_spacing self.now.one_mark cage.now) result }
+    {
+        match self.below.check(beam, cage) {
+            0 => answer(self.ask_all(cage)),
+            lower => lower,
+        }
+    }
+}
