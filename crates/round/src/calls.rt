@@ -1,0 +1,6 @@
+use std::test::Fail;
+
+#[test]
+fn nothing(_rt: HostRuntime) -> Result<(), Fail> {
+    Ok(())
+}
