@@ -1,11 +1,13 @@
 use crate::reference::CARD;
+use books::frame::Frame;
+use books::general::General;
 use console::console::answer_orders;
 use std::process::Abort;
 use std::test::Fail;
 
 // Whether the console answers the stream with these bytes.
 fn answers(rt: &(impl Abort + AllocGlobal), stream: &[u8], expected: &[u8]) -> Result<(), Fail> {
-    let out = answer_orders(rt.alloc(), stream)?;
+    let out = answer_orders(rt.alloc(), Frame { below: General }, stream)?;
     assert!(rt; out.as_slice() == expected);
     Ok(())
 }
@@ -17,6 +19,7 @@ fn empty_stream(rt: HostRuntime) -> Result<(), Fail> {
 
 #[test]
 fn unknown_and_cut_orders(rt: HostRuntime) -> Result<(), Fail> {
+    answers(&rt, b"R\x07", b"STOP\nCAGES\nTOTAL 0 0\n")?;
     answers(&rt, b"K\x07", b"STOP\nCAGES\nTOTAL 0 0\n")?;
     answers(&rt, b"S\x00\x05", b"STOP\nCAGES\nTOTAL 0 0\n")?;
     answers(&rt, b"E\x07\x03\x00\x00", b"STOP\nCAGES\nTOTAL 0 0\n")?;
@@ -44,5 +47,34 @@ fn taken_place_and_empty_stock(rt: HostRuntime) -> Result<(), Fail> {
         stream.as_slice(),
         b"E 7 OK\nE 7 REFUSED 2 0\nD 7 REFUSED 10 0\nS 11 OK\nD 7 REFUSED 10 0\nS 3 OK\nD 7 NONE 4\n\
           CAGES\nTOTAL 0 0\n",
+    )
+}
+
+// Whether the console answers these stock orders and a design of the reference beam with these bytes.
+fn designs(rt: &(impl Abort + AllocGlobal), stock: &[u8], expected: &[u8]) -> Result<(), Fail> {
+    let mut stream = Vec::new(rt.alloc());
+    stream.extend_from_slice(stock)?;
+    stream.extend_from_slice(b"E\x07\x3a")?;
+    stream.extend_from_slice(&CARD)?;
+    stream.extend_from_slice(b"D\x07")?;
+    answers(rt, stream.as_slice(), expected)
+}
+
+#[test]
+fn worked_designs(rt: HostRuntime) -> Result<(), Fail> {
+    designs(
+        &rt,
+        b"S\x00\x05\x01S\x01\x03\x01",
+        b"S 5 OK\nS 3 OK\nE 7 OK\nD 7 CAGE\nCAGES\n07 B 3#5 T 4#5 S #3@200 9604780\nTOTAL 1 9604780\n",
+    )?;
+    designs(
+        &rt,
+        b"S\x00\x05\x01S\x01\x04\x01",
+        b"S 5 OK\nS 4 OK\nE 7 OK\nD 7 CAGE\nCAGES\n07 B 3#5 T 4#5 S #4@100 16214300\nTOTAL 1 16214300\n",
+    )?;
+    designs(
+        &rt,
+        b"S\x00\x0b\x01S\x01\x03\x01",
+        b"S 11 OK\nS 3 OK\nE 7 OK\nD 7 NONE 4\nCAGES\nTOTAL 0 0\n",
     )
 }

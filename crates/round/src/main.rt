@@ -1,0 +1,26 @@
+// Reads streams of orders from standard input, two bytes with its length before each, and prints the console's answer to each:
+// on a book of a workshop.
+#![tactic(auto)]
+
+#[cfg(test)]
+mod calls; // the answers to a list of calls of all kinds
+mod record; // the streams of the input
+mod workshop; // the book of the workshop
+
+use crate::record::next_stream;
+use crate::workshop::Workshop;
+use console::console::answer_orders;
+use std::io::{Read, Write};
+
+fn main(rt: HostRuntime) -> anyhow::Result<()> {
+    let heap = rt.alloc();
+    let mut bytes = Vec::new(heap);
+    rt.stdin().read_to_end(&mut bytes)?;
+    let mut rest = bytes.as_slice();
+    while let Some((stream, after)) = next_stream(rest) {
+        let out = answer_orders(heap, Workshop, stream)?;
+        rt.stdout().write_all(out.as_slice())?;
+        rest = after;
+    }
+    Ok(())
+}
