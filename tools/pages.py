@@ -79,8 +79,8 @@ def cases():
 
 # worked by hand
 assert case(0, "begin", 5)[1] == "REFUSED 11 0 2600\n"
-assert case(0, "line", 41)[1] == "REFUSED 11 6 2594\nCAGES\nTOTAL 0 0\n"
-assert case(0, "line", 42)[1] == "OK 42 2558\nCAGES\n07 B 3#5 T 4#5 S #3@200 9604780\nTOTAL 1 9604780\n"
+assert case(0, "line", 37)[1] == "REFUSED 11 6 2594\nCAGES\nTOTAL 0 0\n"
+assert case(0, "line", 38)[1] == "OK 38 2562\nCAGES\n07 B 3#5 T 4#5 S #3@200 9604780\nTOTAL 1 9604780\n"
 assert case(64, "total", 2459, 63, HEAVY)[1].startswith("OK 2459 141\n")
 assert case(64, "total", 2458, 63, HEAVY)[1].startswith("REFUSED 11 2438 162\n")
 assert case(64, "total", 2459, 63, HEAVY)[1].endswith("TOTAL 64 28989270528\n")
