@@ -6,3 +6,4 @@ pub mod Kept
 pub mod Runs
 pub mod Answering
 pub mod Running
+pub mod Shows

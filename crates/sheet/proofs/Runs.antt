@@ -107,7 +107,7 @@ module _ (pile : Beam → Cage → ℕ) (calls : List Call) (p : ℕ) where
   one_beam b c h k =
       only_beam h.0 (Ok b) h.1.1 c (subst (λ (v : List ℕ). CardAs v (Ok c)) (same_card k.0 h.0 (card_after calls p) k.1.0 h.1.0) k.1.1)
 
-  one_right : (b : Beam) (d e : Decision) → IsBeamAfter calls p b → Lightest pile (in_after calls) b d
+  pub one_right : (b : Beam) (d e : Decision) → IsBeamAfter calls p b → Lightest pile (in_after calls) b d
       → (c : Beam) × (IsBeamAfter calls p c × Lightest pile (in_after calls) c e) → e ≡ d
   one_right b d e is l other =
       one_decision pile (in_after calls) b e d (subst (λ (v : Beam). Lightest pile (in_after calls) v e) (one_beam b other.0 is other.1.0) other.1.1) l

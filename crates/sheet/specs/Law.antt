@@ -1,5 +1,5 @@
 -- What a sheet on a pile of article books may answer after any list of calls, the newest first.
-use Rattle.std.specs.Prelude.{◌≡◌, ℕ, min, Bool, false, List, [], ◌∷◌, map, Some, None, Ok, Err, Option, Result}
+use Rattle.std.specs.Prelude.{◌≡◌, ℕ, min, Bool, false, List, [], ◌∷◌, map, reverse, Some, None, Ok, Err, Option, Result}
 use Rattle.rebar.specs.declared.beam.Beam.{Beam}
 use Rattle.rebar.specs.declared.cage.Cage.{Cage}
 use Rattle.books.specs.Answers.{Passes}
@@ -73,6 +73,10 @@ Answers pile calls call (Ok a) = (why_after calls call ≡ None) × Tells pile c
 -- the call of an exchange
 abbrev pub call_of : Exchange → Call
 call_of x = x.call
+
+-- the calls of some exchanges that were made in this order, the newest first
+abbrev pub calls_of : List Exchange → List Call
+calls_of exchanges = reverse (map call_of exchanges)
 
 -- there is an answer, and it is so
 abbrev pub HasAnswer : (Result Answer Refusal → Type 0) → Option (Result Answer Refusal) → Type 0

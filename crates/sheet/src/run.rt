@@ -1,7 +1,8 @@
 ghost use Rattle.std.specs.Prelude.{◌≡◌, ℕ, map, reverse, Ok, IfOk};
 ghost use Rattle.sheet.specs.Calls.{Makes, Reads, refusal, done, shows};
 ghost use Rattle.sheet.specs.declared.call.Call.TheVariants as call;
-ghost use Rattle.sheet.specs.Law.{call_of, AllAnswered, Lawful};
+ghost use Rattle.sheet.specs.Law.{call_of, calls_of, AllAnswered, Lawful};
+ghost use Rattle.sheet.specs.declared.reading.Shown.{Shown};
 ghost use Rattle.sheet.specs.Runs.{Run, AnswersLawfully};
 ghost use Rattle.sheet.specs.Shown.{shown_at};
 
@@ -61,8 +62,9 @@ pub fn run<P: Book>(pile: P, exchanges: &mut [Exchange<'_>]) -> Sheet<P>
     ensures keeps_the_pile { result.pile ≡ pile }
     ensures same_calls { map call_of exchanges.new ≡ map call_of exchanges.old }
     ensures every_call_answered { AllAnswered (P.Book.answer pile) (reverse exchanges.new) }
-    ensures history_of_these_calls { Run (P.Book.answer pile) (map call_of (reverse exchanges.new)) result.table }
-    ensures sound_and_lightest { (p : ℕ) → Lawful (P.Book.answer pile) (map call_of (reverse exchanges.new)) p (shown_at result p) }
+    ensures history_of_these_calls { Run (P.Book.answer pile) (calls_of exchanges.old) result.table }
+    ensures sound_and_lightest { (p : ℕ) → Lawful (P.Book.answer pile) (calls_of exchanges.old) p (shown_at result p) }
+    ensures shows_nothing_else { (p : ℕ) (shown : Shown) → Lawful (P.Book.answer pile) (calls_of exchanges.old) p shown → shown ≡ shown_at result p }
 {
     let mut sheet = Sheet::open(pile);
     for exchange in exchanges.iter_mut() {

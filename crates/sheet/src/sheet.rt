@@ -121,6 +121,7 @@ impl<P: Book> Sheet<P> {
             shown: Shown::of(self.table.at(place)),
         })
     }
+
     // How many design orders were not refused, up to the greatest number.
     #[tactic(auto, using(crate::proofs::Runs::grows, crate::proofs::Runs::counts_designs))]
     pub fn count(&self) -> u32

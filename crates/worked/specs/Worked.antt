@@ -25,7 +25,7 @@ bars n mark a b c d = record { mark = mark; number = n; marked = (lit≤ c, lit�
 
 -- #3 ties at a spacing
 abbrev pub ties_at : (s : ℕ) → T (nat_le 50 s) → T (nat_le s 600) → s % 25 ≡ 0 → Ties
-ties_at s a b c = record { mark = 3; spacing = s; marked = (lit≤ tt, lit≤ tt); spaced = (lit≤ a, lit≤ b, c) }
+ties_at s a b c = record { mark = 3; spacing = s; marked = (lit≤ tt, lit≤ tt); spaced = ((lit≤ a, lit≤ b), c) }
 
 -- the faces of the examples: so many #5 bars
 abbrev pub two : Bars

@@ -1,9 +1,11 @@
 use Rattle.std.proofs.Common.{rules, ◌<◌, ◌∙◌, length, map, reverse, subst, slice_index_or}
 use Rattle.sheet.specs.Calls.{Makes, refusal}
-use Rattle.sheet.specs.Law.{call_of}
+use Rattle.sheet.specs.Law.{call_of, calls_of}
 use Rattle.sheet.specs.Runs.{AnswersLawfully}
+use Rattle.sheet.specs.Shown.{shown_at}
 use Rattle.sheet.proofs.Runs.{lawful}
-use Rattle.sheet.proofs.Running.{one_more, same_calls, ended}
+use Rattle.sheet.proofs.Shows.{one_shown}
+use Rattle.sheet.proofs.Running.{one_more, same_calls, history}
 use Rattle.sheet.proofs.run.run.Goals as goal
 
 pub loop-exchange-preserved : goal.loop-exchange-preserved
@@ -19,9 +21,17 @@ loop-exchange-preserved g c =
       same_calls pile l.exchanges l.exchange-index l.sheet.table c.make.new.self.table c.exchange-item.result c.make.result within ∙ l.invariant.2,
     )
 
+pub returns-clause-history_of_these_calls : goal.returns-clause-history_of_these_calls
+returns-clause-history_of_these_calls g c =
+    let l = c.loop-exchange in
+    history (g.P.Book.answer c.args.pile) l.exchanges c.args.exchanges.now l.exchange-index l.sheet.table (search rules) l.invariant.1 l.invariant.2
+
 pub returns-clause-sound_and_lightest : goal.returns-clause-sound_and_lightest
 returns-clause-sound_and_lightest g c =
-    let l = c.loop-exchange in
-    let pile = g.P.Book.answer c.args.pile in
-    let made = ended pile l.exchanges l.exchange-index l.sheet.table (search rules) l.invariant.1 in
-    λ p. lawful pile (map call_of (reverse l.exchanges)) l.sheet.table made.run p
+    λ p. lawful (g.P.Book.answer c.args.pile) (calls_of c.args.exchanges.now) c.loop-exchange.sheet.table (returns-clause-history_of_these_calls g c) p
+
+pub returns-clause-shows_nothing_else : goal.returns-clause-shows_nothing_else
+returns-clause-shows_nothing_else g c =
+    λ p shown h.
+    one_shown (g.P.Book.answer c.args.pile) (calls_of c.args.exchanges.now) p shown (shown_at c.loop-exchange.sheet p) h.right
+    (returns-clause-sound_and_lightest g c p).right
