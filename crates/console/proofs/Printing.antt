@@ -9,18 +9,12 @@ use Rattle.sheet.specs.declared.call.Call.{Call}
 use Rattle.sheet.specs.declared.call.Exchange.{Exchange}
 use Rattle.sheet.specs.declared.reading.Shown.{Shown}
 use Rattle.sheet.specs.declared.reading.Shown.TheVariants.{Empty, Open, Chosen, Impossible}
-use Rattle.sheet.specs.Law.{call_of, AllAnswered, Lawful}
+use Rattle.sheet.specs.Law.{call_of, calls_of, AllAnswered, Lawful}
 use Rattle.bill.specs.Whole.{bill_text}
 use Rattle.console.specs.Bills.{line_at, lines_below}
 use Rattle.console.specs.Lines.{lines_text}
 use Rattle.console.specs.Orders.{Spells}
-use Rattle.console.specs.Printed.{stop_text, IsPrinted, IsLightestAfter, EndsWithLightest}
-
-reversed : {A B : Type 0} (f : A → B) (xs : List A) → map f (reverse xs) ≡ reverse (map f xs)
-reversed f [] = refl
-reversed f (x ∷ xs) =
-    ap (map f) (reverse-append (x ∷ []) xs) ∙ map-append f (reverse xs) (x ∷ []) ∙ ap (λ l. l ++ f x ∷ []) (reversed f xs)
-    ∙ sym (reverse-append (f x ∷ []) (map f xs))
+use Rattle.console.specs.Printed.{stop_text, IsPrinted, IsLightestAfter, ShowsLightest}
 
 one : {A : Type 0} (P : A → Type 0) (x : A) → P x → All P (x ∷ [])
 one P x h zero d l = h
@@ -42,23 +36,14 @@ all_lightest pile calls shown h zero = none (IsLightestAfter pile calls)
 all_lightest pile calls shown h (suc n) =
     All-append (IsLightestAfter pile calls) (lines_below shown n) (line_at n (shown n)) (all_lightest pile calls shown h n) (here pile calls n (shown n) (h n))
 
-pub ends_with_lightest : (pile : Beam → Cage → ℕ) (stream out : List ℕ) → IsPrinted pile stream out → EndsWithLightest pile stream out
-ends_with_lightest pile stream out p =
-    record {
-      calls = map call_of p.exchanges;
-      stopped = p.stopped;
-      front = lines_text p.exchanges ++ stop_text p.stopped;
-      lines = lines_below p.shown 64;
-      spelled = p.spelled;
-      text = p.text ∙ sym (append_assoc (lines_text p.exchanges) (stop_text p.stopped) (bill_text (lines_below p.shown 64)));
-      lightest = subst (λ (calls : List Call). All (IsLightestAfter pile calls) (lines_below p.shown 64)) (reversed call_of p.exchanges)
-          (all_lightest pile (map call_of (reverse p.exchanges)) p.shown p.lawful 64);
-    }
+pub shows_lightest : (pile : Beam → Cage → ℕ) (stream out : List ℕ) → IsPrinted pile stream out → ShowsLightest pile stream out
+shows_lightest pile stream out p =
+    record { printed = p; lightest = all_lightest pile (calls_of p.exchanges) p.shown p.lawful 64 }
 
 -- the parts of what is printed, put together
 pub printed : (pile : Beam → Cage → ℕ) (stream : List ℕ) (old xs : List Exchange) (stopped : Bool) (shown : ℕ → Shown) (none lined stop out : List ℕ)
     → Spells stream (map call_of old) stopped → map call_of xs ≡ map call_of old → AllAnswered pile (reverse xs)
-    → ((p : ℕ) → Lawful pile (map call_of (reverse xs)) p (shown p))
+    → ((p : ℕ) → Lawful pile (calls_of old) p (shown p))
     → none ≡ [] → lined ≡ none ++ lines_text xs → stop ≡ lined ++ stop_text stopped → out ≡ stop ++ bill_text (lines_below shown 64)
     → IsPrinted pile stream out
 printed pile stream old xs stopped shown none lined stop out spells same answered lawful n l s o =
@@ -68,7 +53,7 @@ printed pile stream old xs stopped shown none lined stop out spells same answere
       shown = shown;
       spelled = subst (λ (calls : List Call). Spells stream calls stopped) (sym same) spells;
       answered = answered;
-      lawful = lawful;
+      lawful = λ p. subst (λ (calls : List Call). Lawful pile calls p (shown p)) (ap reverse (sym same)) (lawful p);
       text =
           o ∙ ap (λ (v : List ℕ). v ++ bill_text (lines_below shown 64)) (s ∙ ap (λ (v : List ℕ). v ++ stop_text stopped) (l ∙ ap (λ (v : List ℕ). v ++ lines_text xs) n))
           ∙ append_assoc (lines_text xs) (stop_text stopped) (bill_text (lines_below shown 64));

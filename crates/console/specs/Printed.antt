@@ -9,7 +9,7 @@ use Rattle.sheet.specs.declared.call.Call.{Call}
 use Rattle.sheet.specs.declared.call.Exchange.{Exchange}
 use Rattle.sheet.specs.declared.reading.Shown.{Shown}
 use Rattle.sheet.specs.History.{in_after, IsBeamAfter}
-use Rattle.sheet.specs.Law.{call_of, AllAnswered, Lawful}
+use Rattle.sheet.specs.Law.{call_of, calls_of, AllAnswered, Lawful}
 use Rattle.bill.specs.Whole.{bill_text}
 use Rattle.console.specs.Bills.{lines_below}
 use Rattle.console.specs.Lines.{lines_text}
@@ -28,19 +28,14 @@ pub record IsPrinted (pile : Beam → Cage → ℕ) (stream out : List ℕ) : Ty
   pub shown : ℕ → Shown
   pub spelled : Spells stream (map call_of exchanges) stopped
   pub answered : AllAnswered pile (reverse exchanges)
-  pub lawful : (p : ℕ) → Lawful pile (map call_of (reverse exchanges)) p (shown p)
+  pub lawful : (p : ℕ) → Lawful pile (calls_of exchanges) p (shown p)
   pub text : out ≡ lines_text exchanges ++ (stop_text stopped ++ bill_text (lines_below shown 64))
 
 -- a line shows the lightest cage from stock that the pile passes for the beam at its place, with its own steel, after these calls
 abbrev pub IsLightestAfter : (Beam → Cage → ℕ) → List Call → ℕ × Choice → Type 0
 IsLightestAfter pile calls line = (b : Beam) × (IsBeamAfter calls line.0 b × Lightest pile (in_after calls) b (decision.Chosen line.1))
 
--- what is printed ends with the bill of some lines, and every one of them shows such a cage after the calls that the stream spells
-pub record EndsWithLightest (pile : Beam → Cage → ℕ) (stream out : List ℕ) : Type 0 where
-  pub calls : List Call
-  pub stopped : Bool
-  pub front : List ℕ
-  pub lines : List (ℕ × Choice)
-  pub spelled : Spells stream calls stopped
-  pub text : out ≡ front ++ bill_text lines
-  pub lightest : All (IsLightestAfter pile (reverse calls)) lines
+-- what is printed is so, and every line of its bill shows such a cage after the calls that the stream spells
+pub record ShowsLightest (pile : Beam → Cage → ℕ) (stream out : List ℕ) : Type 0 where
+  pub printed : IsPrinted pile stream out
+  pub lightest : All (IsLightestAfter pile (calls_of printed.exchanges)) (lines_below printed.shown 64)

@@ -1,5 +1,5 @@
 ghost use Rattle.std.specs.Prelude.{◌≡◌, IfOk, IfErr};
-ghost use Rattle.console.specs.Printed.{IsPrinted, EndsWithLightest};
+ghost use Rattle.console.specs.Printed.{IsPrinted, ShowsLightest};
 ghost use Rattle.console.specs.declared.failure.Failure.TheVariants.{NoMemory};
 
 use crate::billing::append_bill;
@@ -18,7 +18,7 @@ pub fn answer_orders<P: Book + Drop>(
     stream: &[u8],
 ) -> Result<Vec<u8>, Failure>
     ensures lines_and_bill { IfOk result (λ out. IsPrinted (P.Book.answer pile) stream.now out.items) }
-    ensures printed_cages_are_sound_and_lightest { IfOk result (λ out. EndsWithLightest (P.Book.answer pile) stream.now out.items) }
+    ensures printed_cages_are_sound_and_lightest { IfOk result (λ out. ShowsLightest (P.Book.answer pile) stream.now out.items) }
     ensures only_want_of_memory { IfErr result (λ failure. failure ≡ NoMemory) }
 {
     let mut spelled = spell(heap, stream)?;
