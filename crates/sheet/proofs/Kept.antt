@@ -3,7 +3,7 @@ use Rattle.std.proofs.Common.{◌≡◌, ◌≢◌, ℕ, zero, suc, ◌-◌, ◌
 use mathlib.Core.Path.{fun_ext}
 use Rattle.std.specs.Bool.{beq}
 use Rattle.std.specs.List.{list_any}
-use Rattle.std.proofs.lemmas.Bool.{cases_eq, and_parts, or_parts, false≢true}
+use Rattle.std.proofs.lemmas.Bool.{cases_eq, or_parts, false≢true}
 use Rattle.std.proofs.lemmas.List.{length-map}
 use Rattle.rebar.specs.declared.beam.Beam.{Beam}
 use Rattle.rebar.specs.declared.cage.Cage.{Cage}
@@ -217,7 +217,7 @@ module _ {pile : Beam → Cage → ℕ} {cards : ℕ → Option (List ℕ)} {got
     where
       go : (v : Bool) → beq (has t.stock j m) b ≡ v
           → KeptBy pile cards (λ i n. cond (sets j m i n) b (got i n)) (λ q d. S q d × ((not same && f d) ≡ false)) designs
-              (cond v t (record { places = map (place_reopened j m b) t.places; stock = with_mark t.stock j m b; count = t.count }))
+          (cond v t (record { places = map (place_reopened j m b) t.places; stock = with_mark t.stock j m b; count = t.count }))
       go true h =
           record {
             places = k.places;

@@ -1,5 +1,5 @@
 -- Every call keeps what holds of the table, and so the law holds after any list of calls.
-use Rattle.std.proofs.Common.{◌≡◌, ℕ, suc, ◌+◌, ◌≤◌, min, Bool, true, false, cond, not, ◌&&◌, ◌||◌, List, ◌∷◌, length, ◌-◌, Some, None, Ok, Err, Option, Result, is_some, is_none, nat_lt, ◌==◌, slice_index_or, refl, sym, ap, ◌∙◌, subst, arith, eqb-true, eq-eqb, ltb-false}
+use Rattle.std.proofs.Common.{◌≡◌, ℕ, suc, ◌+◌, ◌≤◌, min, Bool, true, false, cond, ◌&&◌, ◌||◌, List, ◌∷◌, length, ◌-◌, Some, None, Ok, Err, Option, Result, is_some, is_none, nat_lt, ◌==◌, slice_index_or, refl, sym, ap, ◌∙◌, subst, arith, eqb-true, eq-eqb, ltb-false}
 use mathlib.Core.Path.{fun_ext}
 use Rattle.std.specs.Bool.{beq}
 use Rattle.std.proofs.lemmas.Bool.{false≢true, false_from_ne_true}
@@ -161,7 +161,7 @@ module _ (pile : Beam → Cage → ℕ) (calls : List Call) (t : Table) (k : Kep
 
       decides : (q : ℕ) (v : Bool) → (p == q) ≡ v
           → AgreesBy (decision_at (cond v (Some (decided b d)) (place_at t q)))
-              (λ e. If v ((c : Beam) × (IsBeamAfter calls q c × Lightest pile (in_after calls) c e)) (Stands pile calls q e))
+          (λ e. If v ((c : Beam) × (IsBeamAfter calls q c × Lightest pile (in_after calls) c e)) (Stands pile calls q e))
       decides q true i =
           subst (λ (j : ℕ). AgreesBy (Some d) (λ e. (c : Beam) × (IsBeamAfter calls j c × Lightest pile (in_after calls) c e))) (eqb-true p q i)
           ((b, (beam_here, right_now)), λ e s. one_right pile calls p b d e beam_here right_now s)
@@ -302,7 +302,7 @@ pub lawful : (pile : Beam → Cage → ℕ) (calls : List Call) (t : Table) → 
 lawful pile calls t run p =
     let k = kept run in
     let r = by_holding pile calls p (card_after calls p) refl (place_at t p) (k.holds p)
-      (subst (λ (g : Kind → ℕ → Bool). Right pile g (place_at t p)) (marked pile calls t k) (k.right p)) (k.stands p) in
+    (subst (λ (g : Kind → ℕ → Bool). Right pile g (place_at t p)) (marked pile calls t k) (k.right p)) (k.stands p) in
     record { right = r; decided = by_design pile calls t run p _ r }
 
 -- so a reading is lawful, and the count is that of the designs

@@ -1,9 +1,10 @@
 -- What a list of calls, the newest first, has made of places, stock and count: in words of the calls alone.
-use Rattle.std.specs.Prelude.{◌≡◌, ℕ, suc, Bool, false, cond, not, ◌&&◌, ◌||◌, List, [], ◌∷◌, Some, None, Ok, Option, is_some, is_none, ◌==◌, true}
+use Rattle.std.specs.Prelude.{◌≡◌, ℕ, suc, Bool, false, cond, not, ◌&&◌, ◌||◌, List, [], ◌∷◌, Some, None, Ok, Option, is_some, is_none, ◌==◌, true, zero, ◌-◌, ◌+◌}
 use Rattle.std.specs.Bool.{beq}
 use Rattle.std.specs.List.{list_any}
 use Rattle.rebar.specs.declared.beam.Beam.{Beam}
 use Rattle.rebar.specs.declared.cage.Cage.{Cage}
+use Rattle.rebar.specs.Ranges.{main_marks}
 use Rattle.card.specs.Card.{CardAs}
 use Rattle.stock.specs.declared.kind.Kind.{Kind}
 use Rattle.stock.specs.declared.kind.Kind.TheVariants.{Main, Tie}
@@ -23,9 +24,14 @@ in_after [] k m = false
 in_after (Stock kind mark is-in ∷ calls) k m = cond (kind == kind_number k && (mark == m && known k m)) is-in (in_after calls k m)
 in_after (call ∷ calls) k m = in_after calls k m
 
+-- n numbers from k on
+abbrev pub from : ℕ → ℕ → List ℕ
+from k zero = []
+from k (suc n) = k ∷ from (suc k) n
+
 -- the marks that bars may have
 abbrev pub marks : List ℕ
-marks = 3 ∷ 4 ∷ 5 ∷ 6 ∷ 7 ∷ 8 ∷ 9 ∷ 10 ∷ 11 ∷ []
+marks = from main_marks.least (main_marks.most - main_marks.least + 1)
 
 -- whether some main mark and some tie mark is in
 abbrev pub stocked_after : List Call → Bool

@@ -1,5 +1,5 @@
 -- What a sheet on a pile of article books may answer after any list of calls, the newest first.
-use Rattle.std.specs.Prelude.{◌≡◌, ℕ, min, Bool, false, List, [], ◌∷◌, map, reverse, Some, None, Ok, Err, Option, Result}
+use Rattle.std.specs.Prelude.{◌≡◌, ℕ, min, Bool, List, [], ◌∷◌, map, reverse, Some, None, Ok, Err, Option, Result}
 use Rattle.rebar.specs.declared.beam.Beam.{Beam}
 use Rattle.rebar.specs.declared.cage.Cage.{Cage}
 use Rattle.books.specs.Answers.{Passes}

@@ -1,6 +1,6 @@
-use Rattle.std.proofs.Common.{rules, ◌<◌, ◌∙◌, length, map, reverse, subst, slice_index_or}
+use Rattle.std.proofs.Common.{rules, ◌<◌, ◌∙◌, length, subst, slice_index_or}
 use Rattle.sheet.specs.Calls.{Makes, refusal}
-use Rattle.sheet.specs.Law.{call_of, calls_of}
+use Rattle.sheet.specs.Law.{calls_of}
 use Rattle.sheet.specs.Runs.{AnswersLawfully}
 use Rattle.sheet.specs.Shown.{shown_at}
 use Rattle.sheet.proofs.Runs.{lawful}
