@@ -281,6 +281,12 @@ GOING_OUT = [
     *(S(MAIN, 4, 0), D(2, "REFUSED 10 0"), S(TIE, 3, 0), D(2, "REFUSED 10 0")),
 ]
 
+# a main mark that the bottom alone uses, and one that the top alone uses
+BOTTOM_OUT, TOP_OUT = (
+    [S(MAIN, 4, 1), *YARD, E(1, card(height=left)), E(3, BETWEEN), D(1), D(3), S(MAIN, mark, 0)]
+    for left, mark in ((500, 4), (400, 5))
+)
+
 CORRECTIONS = [
     *YARD,
     # of an open, a chosen and an impossible beam
@@ -337,6 +343,7 @@ assert take_all(COMING_IN)[8:] == [["07", "09"]] * 5 + [[], ["09"], ["09"], ["09
 assert take_all(GOING_OUT)[20:] == (
     [["01", "02", "03", "04", "63"]] * 3 + [["01", "02", "03", "04"]] * 2 + [["02", "04"]] + [["02"]] * 6 + [[]] * 4
 )
+assert take(BOTTOM_OUT) == take(TOP_OUT) == ["01"]
 take_all(CORRECTIONS)
 assert take(IN_PLACE_ORDER) == ["00", "07", "09", "10", "31", "32", "63"]
 assert take(ALL_PLACES) == [f"{place:02}" for place in range(64)]
