@@ -28,7 +28,7 @@ def up(x, y):
 def workshop(beam, cage):
     bottom, number, top, _, tie, spacing = cage
     if beam["span"] > 2000 * tie:
-        return 40
+        return 200
     if spacing > 10 * beam["cover"]:
         return 255
     if beam["height"] > 50 * (bottom + top):
@@ -229,6 +229,7 @@ HIGH = card(height=800)  # main marks of 16 together
 HIGH_COVERED = card(height=800, cover=60)  # the same, and no ties stand too far apart
 LONG = card(height=400, span=7000)  # ties of mark 4 at least
 ENDLESS = card(span=11000)  # ties of mark 6: there are none
+HIGH_LONG = card(height=800, cover=60, span=7000)  # both: of ties of 3 and 4 the thinner have the greater answer
 COARSE = card(aggregate=31)  # four bars at the bottom
 EMPTY = ["CAGES", "TOTAL 0 0"]
 YARD = [S(MAIN, 5, 1), S(TIE, 3, 1)]
@@ -261,10 +262,12 @@ AS_IT_WAS = [
 
 COMING_IN = [
     *YARD,
-    *(E(7, MIDDLE), D(7), E(8, ENDLESS), D(8, "NONE 40"), E(9, COARSE), D(9)),
+    *(E(7, MIDDLE), D(7), E(8, ENDLESS), D(8, "NONE 200"), E(9, COARSE), D(9)),
     *(E(10, HIGH), D(10, "NONE 255"), E(11, HIGH_COVERED), D(11, "NONE 120")),
     # each of the chosen ones is open again, also those that a lighter mark cannot help
-    *(S(MAIN, 11, 1), D(9), D(8, "NONE 40"), D(10), D(11), S(TIE, 4, 1), D(9), D(11)),
+    *(S(MAIN, 11, 1), D(9), D(8, "NONE 200"), D(10), D(11), S(TIE, 4, 1), D(9), D(11)),
+    # the greatest answer is neither the first nor the last
+    *(S(MAIN, 11, 0), E(12, HIGH_LONG), D(12, "NONE 200")),
 ]
 
 GOING_OUT = [
@@ -272,12 +275,12 @@ GOING_OUT = [
     *(S(TIE, mark, 1) for mark in (3, 4, 5)),
     *(E(1, MIDDLE), E(2, LOW), E(3, BETWEEN), E(4, LONG), E(5, ENDLESS), E(6, MIDDLE), E(63, card(height=600))),
     # 5 and 5, 4 and 4, 4 and 5, 4 and 4 on ties of 4, none, open, 5 and 7
-    *(D(1), D(2), D(3), D(4), D(5, "NONE 40"), D(63)),
+    *(D(1), D(2), D(3), D(4), D(5, "NONE 200"), D(63)),
     # a main mark that no cage uses, though ties have it; a tie mark that no cage uses, though main bars have it
     *(S(MAIN, 3, 0), S(TIE, 5, 0)),
     # one that a top uses; one that both faces of the one and the top of the other use; a tie's, which main bars have too
     *(S(MAIN, 7, 0), D(63, "NONE 255"), S(MAIN, 5, 0), S(TIE, 4, 0)),
-    *(D(1, "NONE 255"), D(3, "NONE 255"), D(4, "NONE 40"), D(5, "NONE 40"), D(2)),
+    *(D(1, "NONE 255"), D(3, "NONE 255"), D(4, "NONE 200"), D(5, "NONE 200"), D(2)),
     *(S(MAIN, 4, 0), D(2, "REFUSED 10 0"), S(TIE, 3, 0), D(2, "REFUSED 10 0")),
 ]
 
@@ -291,7 +294,7 @@ CORRECTIONS = [
     *YARD,
     # of an open, a chosen and an impossible beam
     *(E(1, HIGH), K(1, MIDDLE), D(1), K(1, MIDDLE), D(1), K(1, LOW, "OK"), D(1)),
-    *(E(2, ENDLESS), D(2, "NONE 40"), K(2, MIDDLE), D(2), K(2, ENDLESS), D(2, "NONE 40"), D(2, "NONE 40")),
+    *(E(2, ENDLESS), D(2, "NONE 200"), K(2, MIDDLE), D(2), K(2, ENDLESS), D(2, "NONE 200"), D(2, "NONE 200")),
     # a design once more
     *(E(5, MIDDLE), D(5), D(5), D(1)),
     # strikes of a chosen, an impossible and an open beam, and of an empty place
@@ -339,7 +342,9 @@ def take_cuts(stream):
 take([], EMPTY)
 take(REFUSALS, REFUSALS_BILL)
 assert take_all(AS_IT_WAS)[4:] == [["07"]] * 7
-assert take_all(COMING_IN)[8:] == [["07", "09"]] * 5 + [[], ["09"], ["09"], ["09", "10"], ["09", "10", "11"], [], ["09"], ["09", "11"]]
+assert take_all(COMING_IN)[8:] == [["07", "09"]] * 5 + (
+    [[], ["09"], ["09"], ["09", "10"], ["09", "10", "11"], [], ["09"], ["09", "11"]] + [["09"]] * 3
+)
 assert take_all(GOING_OUT)[20:] == (
     [["01", "02", "03", "04", "63"]] * 3 + [["01", "02", "03", "04"]] * 2 + [["02", "04"]] + [["02"]] * 6 + [[]] * 4
 )

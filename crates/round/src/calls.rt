@@ -129,8 +129,8 @@ fn calls_of_all_kinds(rt: HostRuntime) -> Result<(), Fail> {
             (Call::Read { place: 7 }, Told::Chosen(7, CAGE, STEEL)),
             (correct(7, &ENDLESS), Told::Done),
             (Call::Read { place: 7 }, Told::Open(7)),
-            (Call::Design { place: 7 }, Told::Impossible(7, 40)),
-            (Call::Read { place: 7 }, Told::Impossible(7, 40)),
+            (Call::Design { place: 7 }, Told::Impossible(7, 200)),
+            (Call::Read { place: 7 }, Told::Impossible(7, 200)),
             (Call::Strike { place: 7 }, Told::Done),
             (Call::Read { place: 7 }, Told::Empty(7)),
             (
@@ -157,18 +157,18 @@ fn marks_that_reopen(rt: HostRuntime) -> Result<(), Fail> {
             (enter(0, &MIDDLE), Told::Done),
             (enter(63, &ENDLESS), Told::Done),
             (Call::Design { place: 0 }, Told::Chosen(0, CAGE, STEEL)),
-            (Call::Design { place: 63 }, Told::Impossible(63, 40)),
+            (Call::Design { place: 63 }, Told::Impossible(63, 200)),
             // as they were
             (stock(0, 5, true), Told::Done),
             (stock(1, 4, false), Told::Done),
             (Call::Read { place: 0 }, Told::Chosen(0, CAGE, STEEL)),
-            (Call::Read { place: 63 }, Told::Impossible(63, 40)),
+            (Call::Read { place: 63 }, Told::Impossible(63, 200)),
             // in
             (stock(1, 5, true), Told::Done),
             (Call::Read { place: 0 }, Told::Open(0)),
             (Call::Read { place: 63 }, Told::Open(63)),
             (Call::Design { place: 0 }, Told::Chosen(0, CAGE, STEEL)),
-            (Call::Design { place: 63 }, Told::Impossible(63, 40)),
+            (Call::Design { place: 63 }, Told::Impossible(63, 200)),
             // out: a tie mark whose number the main bars have
             (stock(1, 5, false), Told::Done),
             (Call::Read { place: 0 }, Told::Chosen(0, CAGE, STEEL)),

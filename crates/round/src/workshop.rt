@@ -13,7 +13,7 @@ impl Book for Workshop {
 
     fn check(&self, beam: &Beam, cage: &Cage) -> u8 {
         if 2000 * (cage.ties.mark as u16) < beam.member.span {
-            40
+            200
         } else if 10 * beam.section.cover < cage.ties.spacing {
             255
         } else if 50 * (cage.bottom.mark as u16 + cage.top.mark as u16) < beam.section.height {
