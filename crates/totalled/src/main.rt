@@ -1,4 +1,4 @@
-// Makes a bill of one line with its total, and prints it.
+// Makes a bill of one line with its total, begins another with the next line, and prints both.
 #![tactic(auto)]
 
 ghost use Rattle.std.specs.Prelude.{◌≤◌, length, IfOk};
@@ -17,14 +17,22 @@ fn torn(refused: Refused) -> Refusal {
     refusal
 }
 
-// A bill of one line with its total, and how many bytes it has.
-fn write_bill(page: &mut [u8], reading: &Reading) -> Result<usize, Refusal>
-    ensures { IfOk result (λ written. written ≤ length page.new) }
+// A bill of one line with its total on one page. A line after that begins another bill, on the next page. How many bytes each
+// has.
+fn write_bills(
+    page: &mut [u8],
+    next: &mut [u8],
+    reading: &Reading,
+) -> Result<(usize, usize), Refusal>
+    ensures { IfOk result (λ written. (written.0 ≤ length page.new) × (written.1 ≤ length next.new)) }
 {
     let begun = Begun::begin(page)?;
     let lined = begun.line(page, reading).map_err(torn)?;
     let totalled = lined.total(page).map_err(torn)?;
-    Ok(totalled.written)
+    let first = totalled.written;
+    let another = Begun::begin(next)?;
+    let lined = another.line(next, reading).map_err(torn)?;
+    Ok((first, lined.tear()))
 }
 
 fn main(rt: HostRuntime) -> anyhow::Result<()> {
@@ -41,8 +49,12 @@ fn main(rt: HostRuntime) -> anyhow::Result<()> {
         steel: 9604780,
     });
     let mut page = [0; 64];
-    match write_bill(&mut page, &Reading { place: 7, shown }) {
-        Ok(written) => rt.stdout().write_all(&page[..written])?,
+    let mut next = [0; 64];
+    match write_bills(&mut page, &mut next, &Reading { place: 7, shown }) {
+        Ok((first, second)) => {
+            rt.stdout().write_all(&page[..first])?;
+            rt.stdout().write_all(&next[..second])?;
+        }
         Err(refusal) => println!(rt; "REFUSED {}", u8::from(refusal))?,
     }
     Ok(())

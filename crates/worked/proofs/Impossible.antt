@@ -11,6 +11,9 @@ use Rattle.rebar.specs.declared.cage.Cage.{Cage}
 use Rattle.books.specs.Rules.{test, over, first_broken}
 use Rattle.books.specs.Numbers.{d_of, q_of, face_depth}
 use Rattle.books.specs.Articles.{outer_row_fits, faces_apart, ductile}
+use Rattle.books.specs.declared.frame.Frame.{Frame}
+use Rattle.books.specs.declared.general.General.{General}
+use Rattle.books.specs.Pile.{framed_answer}
 use Rattle.books.specs.General.{articles_for, general_answer}
 use Rattle.books.specs.Frame.{frame_answer}
 use Rattle.stock.specs.Kinds.{known}
@@ -19,7 +22,7 @@ use Rattle.stock.specs.Stock.{has}
 use Rattle.search.specs.declared.decision.Decision.TheVariants.{Impossible}
 use Rattle.search.specs.Lightest.{Lightest}
 use Rattle.worked.specs.Reference.{reference_section, reference_materials, reference_beam}
-use Rattle.worked.specs.Worked.{bars, ties_at, cage, pile_answer, main_11_tie_3}
+use Rattle.worked.specs.Worked.{bars, ties_at, cage, main_11_tie_3}
 
 later : (a b : Bool) → T (a && b) → b ≡ true
 later true true t = refl
@@ -65,10 +68,10 @@ by_4 true true false d rest own e = (λ z. absurd (omega (arith, z)), lit≤ tt)
 by_4 true false c d rest own e = (λ z. absurd (omega (arith, z)), lit≤ tt)
 by_4 false b c d rest own e = (λ z. absurd (omega (arith, z)), lit≤ tt)
 
-refused : (in_frame : Bool) (d : Cage) → d.bottom.mark ≡ 11
-    → (pile_answer (reference_beam in_frame) d ≡ 0 → ⊥) × (pile_answer (reference_beam in_frame) d ≤ 4)
+refused : (pile : Frame General) (in_frame : Bool) (d : Cage) → d.bottom.mark ≡ 11
+    → (framed_answer pile (reference_beam in_frame) d ≡ 0 → ⊥) × (framed_answer pile (reference_beam in_frame) d ≤ 4)
 unfolding general_answer articles_for
-refused in_frame d e =
+refused pile in_frame d e =
     let s = reference_section in
     let m = reference_materials in
     by_4 (test (outer_row_fits s m d.ties d.bottom)) (test (outer_row_fits s m d.ties d.top))
@@ -76,10 +79,10 @@ refused in_frame d e =
     (first_broken (drop 4 (articles_for (reference_beam in_frame) d))) (frame_answer (reference_beam in_frame) d)
     (strained d.ties d.bottom e)
 
-pub impossible : (in_frame : Bool) → Lightest pile_answer (has main_11_tie_3) (reference_beam in_frame) (Impossible 4)
+pub impossible : (pile : Frame General) (in_frame : Bool) → Lightest (framed_answer pile) (has main_11_tie_3) (reference_beam in_frame) (Impossible 4)
 unfolding has general_answer articles_for bar_diameter bar_area face_area grade_place root_of block_factor_of least_ratio_of
-impossible in_frame =
+impossible pile in_frame =
     let pair : Bars = bars 2 11 tt tt tt tt in (
-      λ d stocked. refused in_frame d (only_11 d.bottom.mark d.bottom.marked.0 d.bottom.marked.1 stocked.0),
+      λ d stocked. refused pile in_frame d (only_11 d.bottom.mark d.bottom.marked.0 d.bottom.marked.1 stocked.0),
       inl (cage pair pair (ties_at 200 tt tt refl), ((tt, tt, tt), refl)),
     )

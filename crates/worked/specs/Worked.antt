@@ -10,6 +10,9 @@ use Rattle.rebar.specs.declared.cage.Cage.{Cage}
 use Rattle.rebar.specs.Steel.{steel}
 use Rattle.books.specs.Rules.{first_broken, over}
 use Rattle.books.specs.Articles.{general}
+use Rattle.books.specs.declared.frame.Frame.{Frame}
+use Rattle.books.specs.declared.general.General.{General}
+use Rattle.books.specs.Pile.{framed_answer}
 use Rattle.books.specs.General.{general_answer}
 use Rattle.books.specs.Frame.{frame, frame_answer}
 use Rattle.stock.specs.declared.kind.Kind.TheVariants.{Main, Tie}
@@ -79,18 +82,15 @@ abbrev pub EveryTold : List Example → Type 0
 EveryTold [] = Unit {0}
 EveryTold (e ∷ es) = (told e ≡ e.answer) × EveryTold es
 
--- the frame layer over the general book
-abbrev pub pile_answer : Beam → Cage → ℕ
-pile_answer b c = over (general_answer b c) (frame_answer b c)
-
 -- main mark 11 and tie mark 3 alone
 abbrev pub main_11_tie_3 : Stock
 main_11_tie_3 = with_mark (with_mark (record { main = replicate 9 false; tie = replicate 3 false }) Main 11 true) Tie 3 true
 
 -- the actions of the loads, the answers, the steel of two cages, and that main mark 11 makes the beam impossible with 4
+-- on the frame layer over the general book
 pub record WorkedExamples : Type 0 where
   pub actions : ActionsOf reference_loads reference_actions
   pub answers : EveryTold examples
   pub steel_of_the_cage : steel (reference_beam false) (cage three four (ties_at 200 tt tt refl)) ≡ 9604780
   pub steel_in_the_frame : steel (reference_beam true) (cage three four (ties_at 100 tt tt refl)) ≡ 12041500
-  pub impossible : (in_frame : Bool) → Lightest pile_answer (has main_11_tie_3) (reference_beam in_frame) (Impossible 4)
+  pub impossible : (pile : Frame General) (in_frame : Bool) → Lightest (framed_answer pile) (has main_11_tie_3) (reference_beam in_frame) (Impossible 4)
