@@ -4,8 +4,8 @@
     python3 tools/round.py            writes both files
     python3 tools/round.py --check    ends with status 1 where a file would change
 
-It follows docs/RULES.md and docs/FORMATS.md and knows nothing of the Rattle code. The book is that of crates/round/specs. What
-the tour has to print is also written out by hand beside its orders, and the two must agree.
+It follows docs/RULES.md and docs/FORMATS.md and knows nothing of the Rattle code. The book is that of crates/round/specs. What a
+scenario has to print is also written out by hand beside its orders, and the two must agree.
 """
 import functools
 import pathlib

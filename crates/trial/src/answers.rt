@@ -21,18 +21,18 @@ fn yard_over<B: Book>(below: B, limits: &Limits) -> Yard<B> {
     }
 }
 
-// The line of a refused card.
-fn write_fault(lines: &mut String, fault: &Fault) -> Result<(), AllocError> {
+// The line of a question whose card is refused.
+fn write_fault(lines: &mut String, letter: char, fault: &Fault) -> Result<(), AllocError> {
     let kind = u8::from(fault.kind);
     let place = fault.place;
-    writeln!(lines, "Q REFUSED {kind} {place}")
+    writeln!(lines, "{letter} REFUSED {kind} {place}")
 }
 
 // What the general book and the frame layer over it answer, and the steel.
 fn write_formulas(lines: &mut String, pair: &Pair) -> Result<(), AllocError> {
     let beam = match read_card(pair.card) {
         Ok(beam) => beam,
-        Err(fault) => return write_fault(lines, &fault),
+        Err(fault) => return write_fault(lines, 'Q', &fault),
     };
     let general = General.check(&beam, &pair.cage);
     let framed = Frame { below: General }.check(&beam, &pair.cage);
@@ -49,7 +49,7 @@ fn write_yard(
 ) -> Result<(), AllocError> {
     let beam = match read_card(pair.card) {
         Ok(beam) => beam,
-        Err(fault) => return write_fault(lines, &fault),
+        Err(fault) => return write_fault(lines, 'Y', &fault),
     };
     let book = Approved { rows };
     let approved = book.check(&beam, &pair.cage);

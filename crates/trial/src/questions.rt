@@ -34,7 +34,7 @@ pub(crate) enum Order<'a> {
     Design { place: u8 },
 }
 
-// What is left of a stream. All numbers have the high byte first; nothing is read where the stream is too short.
+// What is left of a stream. All numbers have the high byte first.
 #[derive(Drop)]
 pub(crate) struct Reader<'a> {
     pub(crate) rest: &'a [u8],
