@@ -9,10 +9,9 @@ beam or from a fault that is put into it, so its answer is known before it is re
 reads each card once more, and the two must agree.
 """
 import itertools
-import pathlib
-import sys
 
-ROOT = pathlib.Path(__file__).resolve().parent.parent / "crates" / "cards"
+from stored import store
+
 
 # ---- the format: bit, name, bytes, default (None where required) ----
 
@@ -294,9 +293,4 @@ assert cards[0][1].endswith("ACTIONS 68000 96000 124000 124000")
 cut = card_of(REFERENCE)[0]
 stdin = b"".join(bytes([len(card)]) + card for card, _ in cards) + bytes([len(cut)]) + cut[:-1]
 stdout = "".join(line + "\n" for _, line in cards) + "CUT\n"
-files = {ROOT / "stdin": stdin, ROOT / "stdout": stdout.encode()}
-if "--check" in sys.argv:
-    sys.exit(any(not path.exists() or path.read_bytes() != text for path, text in files.items()))
-for path, text in files.items():
-    path.write_bytes(text)
-print(f"{len(cards)} cards")
+store("cards", stdin, stdout.encode(), f"{len(cards)} cards")

@@ -8,11 +8,9 @@ The wanted lines are worked out from the rules of docs/FORMATS.md; nothing here 
 page that is long enough. A page is 2,600 dots at first, a byte that no bill has, so that the dots that are left tell how
 many bytes were written.
 """
+from stored import store
 
-import sys
-from pathlib import Path
 
-ROOT = Path(__file__).resolve().parent.parent / "crates" / "pages"
 
 WHOLE = 2600
 HEAD = "CAGES\n"
@@ -86,9 +84,4 @@ assert case(64, "total", 2458, 63, HEAVY)[1].startswith("REFUSED 11 2438 162\n")
 assert case(64, "total", 2459, 63, HEAVY)[1].endswith("TOTAL 64 28989270528\n")
 
 asked, said = zip(*cases())
-files = {ROOT / "stdin": "".join(f"{one}\n" for one in asked).encode(), ROOT / "stdout": "".join(said).encode()}
-if "--check" in sys.argv:
-    sys.exit(any(not path.exists() or path.read_bytes() != text for path, text in files.items()))
-for path, text in files.items():
-    path.write_bytes(text)
-print(f"{len(asked)} cases")
+store("pages", "".join(f"{one}\n" for one in asked).encode(), "".join(said).encode(), f"{len(asked)} cases")

@@ -8,10 +8,9 @@ It follows docs/RULES.md and docs/FORMATS.md and knows nothing of the Rattle cod
 scenario has to print is also written out by hand beside its orders, and the two must agree.
 """
 import functools
-import pathlib
-import sys
 
-ROOT = pathlib.Path(__file__).resolve().parent.parent / "crates" / "round"
+from stored import store
+
 
 # ---- the rules: bars, steel, the workshop's book, the lightest cage ----
 
@@ -399,9 +398,4 @@ for _ in range(60):
 stdin = b"".join(len(stream).to_bytes(2, "big") + stream for stream in streams)
 stdout = "".join(line + "\n" for stream in streams for line in answer(stream))
 if __name__ == "__main__":
-    files = {ROOT / "stdin": stdin, ROOT / "stdout": stdout.encode()}
-    if "--check" in sys.argv:
-        sys.exit(any(not path.exists() or path.read_bytes() != text for path, text in files.items()))
-    for path, text in files.items():
-        path.write_bytes(text)
-    print(f"{len(streams)} streams")
+    store("round", stdin, stdout.encode(), f"{len(streams)} streams")

@@ -1,5 +1,6 @@
 -- How long a bill can get, and what one line more makes of it.
 use Rattle.std.proofs.Common.{◌≡◌, ℕ, ◌+◌, ◌<◌, ◌≤◌, Bool, true, false, cond, List, [], ◌∷◌, ◌++◌, length, take, codes, decimal, nat_lt, Some, None, Ok, Err, Result, sym, refl, ap, ◌∙◌, subst, arith, length-append, append-nil, add-one, ltb-false}
+use Rattle.std.proofs.lemmas.Option.{none-some}
 use Rattle.std.proofs.lemmas.Fmt.{length-decimal-le}
 use Rattle.std.proofs.lemmas.Bool.Decides.{nat_tests}
 use Rattle.rebar.specs.declared.cage.Bars.{Bars}
@@ -83,10 +84,7 @@ not_refused bill page place x e few room h =
     let l = line_length place x in
     let t : nat_lt bill.lines 64 ≡ true = grind (arith, nat_tests) in
     let f : nat_lt (length page) (bill.written + length (line_text place x)) ≡ false = grind (arith, nat_tests) in
-    no_cause (sym (rw (t, f) refl) ∙ h)
-  where
-    no_cause : None ≡ Some e → ⊥
-    no_cause e = cc
+    none-some e (sym (rw (t, f) refl) ∙ h)
 
 -- a chosen place makes one
 pub line_more : (bill : Begun) (page : List ℕ) (shown : ℕ → Shown) (place : ℕ) (reading : Reading) (x : Choice) (r : Result Begun Refused) (page' : List ℕ)
@@ -150,20 +148,14 @@ total_length b =
 -- bytes that the page has room for are not refused
 roomy_enough : (page bs : List ℕ) (w : ℕ) (e : Refusal) → w + length bs ≤ length page → short page w bs ≡ Some e → ⊥
 roomy_enough page bs w e room h =
-    let f : nat_lt (length page) (w + length bs) ≡ false = grind (arith, nat_tests) in no_cause (sym (rw f refl) ∙ h)
-  where
-    no_cause : None ≡ Some e → ⊥
-    no_cause e = cc
+    let f : nat_lt (length page) (w + length bs) ≡ false = grind (arith, nat_tests) in none-some e (sym (rw f refl) ∙ h)
 
 -- bytes that are not refused have room
 roomy_there : (page bs : List ℕ) (w : ℕ) → short page w bs ≡ None → w + length bs ≤ length page
 roomy_there page bs w h = go (nat_lt (length page) (w + length bs)) refl
   where
-    no_cause : Some PageShort ≡ None → ⊥
-    no_cause e = cc
-
     go : (v : Bool) → nat_lt (length page) (w + length bs) ≡ v → w + length bs ≤ length page
-    go true e = absurd (no_cause (sym (ap (λ (v : Bool). cond v (Some PageShort) None) e) ∙ h))
+    go true e = absurd (none-some PageShort (sym h ∙ ap (λ (v : Bool). cond v (Some PageShort) None) e))
     go false e = ltb-false (length page) (w + length bs) e
 
 -- the bill on a page with room

@@ -1,5 +1,6 @@
 -- The answers to calls of any kind.
 use Rattle.std.proofs.Common.{◌≡◌, ℕ, List, ◌∷◌, Some, None, IfOk, ◌∙◌, Ok, Err, Result, refl, sym, subst}
+use Rattle.std.proofs.lemmas.Option.{none-some}
 use Rattle.rebar.specs.declared.beam.Beam.{Beam}
 use Rattle.rebar.specs.declared.cage.Cage.{Cage}
 use Rattle.sheet.specs.declared.call.Answer.{Answer}
@@ -47,10 +48,7 @@ module _ (pile : Beam → Cage → ℕ) (t : Table) where
   pub read_designed : (p : ℕ) (r : Result Reading Refusal) (t' : Table) → Makes pile t (call.Design p) None t' → Reads p t' r
       → Makes pile t (call.Design p) (refusal r) t'
   read_designed p (Ok reading) t' m h = m
-  read_designed p (Err e) t' m h = absurd (no_refusal {f = NoSuchPlace} (sym m.0 ∙ rw (past p h.0) refl))
-    where
-      no_refusal : {f : Refusal} → None ≡ Some f → ⊥
-      no_refusal e = cc
+  read_designed p (Err e) t' m h = absurd (none-some NoSuchPlace (sym m.0 ∙ rw (past p h.0) refl))
 
   pub design_made : (p : ℕ) (r : Result Reading Refusal) (x : Result Answer Refusal) (t' : Table) → x ≡ shows r → Makes pile t (call.Design p) (refusal r) t'
       → Makes pile t (call.Design p) (refusal x) t'

@@ -4,6 +4,7 @@ use mathlib.Core.Path.{fun_ext}
 use Rattle.std.specs.Bool.{beq}
 use Rattle.std.specs.List.{list_any}
 use Rattle.std.proofs.lemmas.Bool.{cases_eq, or_parts, false≢true}
+use Rattle.std.proofs.lemmas.Option.{none-some}
 use Rattle.std.proofs.lemmas.List.{length-map}
 use Rattle.rebar.specs.declared.beam.Beam.{Beam}
 use Rattle.rebar.specs.declared.cage.Cage.{Cage}
@@ -127,9 +128,6 @@ either : {A : Type 0} (P : A → Type 0) (b : Bool) (x y : A) → P x → P y �
 either P true x y h k = h
 either P false x y h k = k
 
-pub none_some : (b : Beam) → None ≡ Some b → ⊥
-none_some b e = cc
-
 -- the place and its card are taken or not alike; chosen alike they stay so; and a place that is decided, or open again, holds
 -- the beam that it held
 module _ (P : List ℕ → Beam → Type 0) where
@@ -148,7 +146,7 @@ module _ (P : List ℕ → Beam → Type 0) where
 
   pub swapped : (c : Option (List ℕ)) (held : Option Entry) (b : Beam) (d : Decision) → HoldsBy P c held → beam_of held ≡ Some b
       → HoldsBy P c (Some (decided b d))
-  swapped None None b d h e = none_some b e
+  swapped None None b d h e = none-some b e
   swapped (Some card) (Some x) b d h e = same_beam card x.beam b e h
   swapped None (Some x) b d h e = absurd h
   swapped (Some card) None b d h e = absurd h

@@ -3,6 +3,7 @@ use Rattle.std.proofs.Common.{◌≡◌, ℕ, suc, ◌+◌, ◌≤◌, min, Bool
 use mathlib.Core.Path.{fun_ext}
 use Rattle.std.specs.Bool.{beq}
 use Rattle.std.proofs.lemmas.Bool.{false≢true, false_from_ne_true}
+use Rattle.std.proofs.lemmas.Option.{none-some}
 use Rattle.rebar.specs.declared.beam.Beam.{Beam}
 use Rattle.rebar.specs.declared.cage.Cage.{Cage}
 use Rattle.card.specs.Card.{CardAs}
@@ -30,7 +31,7 @@ use Rattle.sheet.specs.Calls.{at_place, why, is_known, Takes, Does, Makes, Reads
 use Rattle.sheet.specs.History.{in_after, stocked_after, card_by, card_after, why_after, in_by_number, If, doubts, StandsBy, Stands, designs_by, designs_after, IsBeamAfter}
 use Rattle.sheet.specs.Law.{IsRight, IsDecided, IsDecidedByDesign, Lawful}
 use Rattle.sheet.specs.Runs.{Run, opened as run_opened, made, Grows, ReadsLawfully, CountsDesigns}
-use Rattle.sheet.proofs.Kept.{Holds, IsDecidedWell, Right, decision_at, AgreesBy, KeptBy, Kept, both, ended, same_beam, swapped, none_some, all_alike, same_why, marked, written, restocked_kept}
+use Rattle.sheet.proofs.Kept.{Holds, IsDecidedWell, Right, decision_at, AgreesBy, KeptBy, Kept, both, ended, same_beam, swapped, all_alike, same_why, marked, written, restocked_kept}
 
 -- a refused call sets no mark
 unset : (kind mark : ℕ) (k : Kind) (m : ℕ) → is_known kind mark ≡ false → (kind == kind_number k && (mark == m && known k m)) ≡ false
@@ -47,14 +48,11 @@ unset kind mark Tie m e = go (kind == 1) (mark == m) refl refl
     go true false p q = refl
     go true true p q = false_from_ne_true (known Tie m) (λ t. false≢true (sym e ∙ rw (eqb-true kind 1 p, eqb-true mark m q, t) refl))
 
-no_cause : {e : Refusal} → None ≡ Some e → ⊥
-no_cause e = cc
-
 refused_mark : (kind mark : ℕ) (e : Refusal) → cond (is_known kind mark) None (Some NoSuchMark) ≡ Some e → is_known kind mark ≡ false
 refused_mark kind mark e h = go (is_known kind mark) refl
   where
     go : (v : Bool) → is_known kind mark ≡ v → is_known kind mark ≡ false
-    go true p = absurd (no_cause (ap (λ v. cond v None (Some NoSuchMark)) (sym p) ∙ h))
+    go true p = absurd (none-some _ (ap (λ v. cond v None (Some NoSuchMark)) (sym p) ∙ h))
     go false p = p
 
 accepted_mark : (kind mark : ℕ) → cond (is_known kind mark) None (Some NoSuchMark) ≡ None → is_known kind mark ≡ true
@@ -62,7 +60,7 @@ accepted_mark kind mark h = go (is_known kind mark) refl
   where
     go : (v : Bool) → is_known kind mark ≡ v → is_known kind mark ≡ true
     go true p = p
-    go false p = absurd (no_cause (sym h ∙ ap (λ v. cond v None (Some NoSuchMark)) p))
+    go false p = absurd (none-some _ (sym h ∙ ap (λ v. cond v None (Some NoSuchMark)) p))
 
 or_nothing : (x : Bool) → (x || false) ≡ x
 or_nothing true = refl
@@ -85,7 +83,7 @@ there : (p : ℕ) (o : Option Refusal) → at_place p o ≡ None → p ≤ 63
 there p o h = go (nat_lt 63 p) refl
   where
     go : (v : Bool) → nat_lt 63 p ≡ v → p ≤ 63
-    go true e = absurd (no_cause (sym h ∙ ap (λ v. cond v (Some NoSuchPlace) o) e))
+    go true e = absurd (none-some _ (sym h ∙ ap (λ v. cond v (Some NoSuchPlace) o) e))
     go false e = ltb-false 63 p e
 
 one_more : (n m : ℕ) → n ≡ min m 4294967295 → min (n + 1) 4294967295 ≡ min (suc m) 4294967295
@@ -94,7 +92,7 @@ one_more n m e = omega (arith, e)
 -- the beam at a place that holds the beam of its card
 beam_held : (c : Option (List ℕ)) (held : Option Entry) (b : Beam) → Holds c held → beam_of held ≡ Some b → (card : List ℕ) × ((c ≡ Some card) × CardAs card (Ok b))
 beam_held (Some card) (Some x) b h e = (card, (refl, same_beam (λ card b. CardAs card (Ok b)) card x.beam b e h))
-beam_held None None b h e = absurd (none_some b e)
+beam_held None None b h e = absurd (none-some b e)
 beam_held (Some card) None b h e = absurd h
 beam_held None (Some x) b h e = absurd h
 
@@ -274,9 +272,9 @@ designed_card : (calls : List Call) (p : ℕ) → why_after calls (call.Design p
 designed_card calls p w = go (nat_lt 63 p) (is_some (card_after calls p)) w
   where
     go : (v u : Bool) → cond v (Some NoSuchPlace) (cond u (cond (stocked_after calls) None (Some NothingInStock)) (Some PlaceEmpty)) ≡ None → u ≡ true
-    go true u e = absurd (no_cause (sym e))
+    go true u e = absurd (none-some _ (sym e))
     go false true e = refl
-    go false false e = absurd (no_cause (sym e))
+    go false false e = absurd (none-some _ (sym e))
 
 -- and makes a decision that stands
 designed : (pile : Beam → Cage → ℕ) (calls : List Call) (p : ℕ) (t t' : Table) (o : Option Refusal) → Run pile calls t → Makes pile t (call.Design p) o t'
@@ -288,7 +286,7 @@ designed pile calls p t t' None run m w =
     let is = beam_held (card_after calls p) (place_at t p) b (k.holds p) m.1.1.1.0 in
     let l = subst (λ (g : Kind → ℕ → Bool). Lightest pile g b d) (marked pile calls t k) m.1.1.1.1 in
     (d, rw (w, eq-eqb p p refl) (b, (is, l)))
-designed pile calls p t t' (Some e) run m w = absurd (no_cause (sym w ∙ sym (same_why pile calls t (kept run) (call.Design p)) ∙ m.0))
+designed pile calls p t t' (Some e) run m w = absurd (none-some _ (sym w ∙ sym (same_why pile calls t (kept run) (call.Design p)) ∙ m.0))
 
 by_design : (pile : Beam → Cage → ℕ) (calls : List Call) (t : Table) → Run pile calls t → (p : ℕ) (s : Shown) → IsRight pile calls p s → IsDecidedByDesign pile calls p s
 by_design pile (call.Design q ∷ calls) t (made c o run m) p s r =

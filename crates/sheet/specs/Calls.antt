@@ -1,5 +1,5 @@
 -- When a call is refused, and what it does to the table of a sheet when it is not.
-use Rattle.std.specs.Prelude.{◌≡◌, ℕ, ◌<◌, ◌≤◌, Bool, false, cond, ◌&&◌, ◌||◌, List, replicate, Some, None, Ok, Err, Option, Result, is_some, nat_lt, ◌==◌}
+use Rattle.std.specs.Prelude.{◌≡◌, ℕ, ◌<◌, ◌≤◌, Bool, false, cond, ◌&&◌, ◌||◌, List, replicate, Some, None, Ok, Err, Option, Result, is_some, nat_lt, ◌==◌, ◌+◌}
 use Rattle.rebar.specs.declared.beam.Beam.{Beam}
 use Rattle.rebar.specs.declared.cage.Cage.{Cage}
 use Rattle.card.specs.declared.fault.Fault.{Fault}
@@ -21,10 +21,14 @@ use Rattle.sheet.specs.declared.table.Table.{Table}
 use Rattle.sheet.specs.Places.{beam_of, opened, shown_of}
 use Rattle.sheet.specs.Table.{place_at, with_place, restocked, settled}
 
+-- places are numbered from 0 to this
+abbrev pub last_place : ℕ
+last_place = 63
+
 -- a new sheet: every place empty, no mark in stock, nothing counted
 abbrev pub New : Table → Type 0
 New t =
-    (t.places ≡ replicate 64 None)
+    (t.places ≡ replicate (last_place + 1) None)
     × (t.stock.main ≡ replicate 9 false)
     × (t.stock.tie ≡ replicate 3 false)
     × (t.count ≡ 0)
@@ -36,11 +40,15 @@ refusal_of (Some fault) = Some (Card fault)
 
 -- no such place, or what is said where there is one
 abbrev pub at_place : ℕ → Option Refusal → Option Refusal
-at_place p else = cond (nat_lt 63 p) (Some NoSuchPlace) else
+at_place p else = cond (nat_lt last_place p) (Some NoSuchPlace) else
+
+-- whether there is a kind with this number, and the test passes for it
+abbrev pub for_kind : ℕ → (Kind → Bool) → Bool
+for_kind number test = (number == kind_number Main && test Main) || (number == kind_number Tie && test Tie)
 
 -- whether the yard knows a mark in the kind with this number
 abbrev pub is_known : ℕ → ℕ → Bool
-is_known number mark = (number == 0 && known Main mark) || (number == 1 && known Tie mark)
+is_known number mark = for_kind number (λ kind. known kind mark)
 
 -- why a call is refused, none where it is not: `holds` says which places hold a beam, and `stocked` whether some main mark and
 -- some tie mark is in
@@ -99,5 +107,5 @@ shows (Err e) = Err e
 
 -- what the place shows, or that there is no such place
 abbrev pub Reads : ℕ → Table → Result Reading Refusal → Type 0
-Reads p t (Ok rd) = (p ≤ 63) × (rd.place ≡ p) × (rd.shown ≡ shown_of (place_at t p))
-Reads p t (Err e) = (63 < p) × (e ≡ NoSuchPlace)
+Reads p t (Ok rd) = (p ≤ last_place) × (rd.place ≡ p) × (rd.shown ≡ shown_of (place_at t p))
+Reads p t (Err e) = (last_place < p) × (e ≡ NoSuchPlace)

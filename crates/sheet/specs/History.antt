@@ -1,5 +1,5 @@
 -- What a list of calls, the newest first, has made of places, stock and count: in words of the calls alone.
-use Rattle.std.specs.Prelude.{◌≡◌, ℕ, suc, Bool, false, cond, not, ◌&&◌, ◌||◌, List, [], ◌∷◌, Some, None, Ok, Option, is_some, is_none, ◌==◌, true, zero, ◌-◌, ◌+◌}
+use Rattle.std.specs.Prelude.{◌≡◌, ℕ, suc, Bool, false, cond, not, ◌&&◌, List, [], ◌∷◌, Some, None, Ok, Option, is_some, is_none, ◌==◌, true, zero, ◌-◌, ◌+◌}
 use Rattle.std.specs.Bool.{beq}
 use Rattle.std.specs.List.{list_any}
 use Rattle.rebar.specs.declared.beam.Beam.{Beam}
@@ -14,7 +14,7 @@ use Rattle.search.specs.Lightest.{Lightest}
 use Rattle.sheet.specs.declared.call.Call.{Call}
 use Rattle.sheet.specs.declared.call.Call.TheVariants.{Enter, Correct, Strike, Stock, Design}
 use Rattle.sheet.specs.declared.refusal.Refusal.{Refusal}
-use Rattle.sheet.specs.Calls.{why_refused}
+use Rattle.sheet.specs.Calls.{for_kind, why_refused}
 use Rattle.sheet.specs.Places.{doubtful}
 
 -- whether a mark is in: the last stock order for that kind and mark set it in. An order for a mark that is not known in its
@@ -61,11 +61,11 @@ IsBeamAfter calls p b = (card : List ℕ) × ((card_after calls p ≡ Some card)
 
 -- whether a mark is in, in the kind with this number
 abbrev pub in_by_number : List Call → ℕ → ℕ → Bool
-in_by_number calls kind mark = (kind == 0 && in_after calls Main mark) || (kind == 1 && in_after calls Tie mark)
+in_by_number calls number mark = for_kind number (λ kind. in_after calls kind mark)
 
 -- whether a stock order, of the kind with this number, gives cause to decide again
 abbrev pub doubts : ℕ → ℕ → Bool → Decision → Bool
-doubts kind mark is-in d = (kind == 0 && doubtful Main mark is-in d) || (kind == 1 && doubtful Tie mark is-in d)
+doubts number mark is-in d = for_kind number (λ kind. doubtful kind mark is-in d)
 
 -- one fact where a test passes, another where it does not
 abbrev pub If : Bool → Type 0 → Type 0 → Type 0

@@ -15,6 +15,7 @@ use Rattle.sheet.specs.declared.call.Exchange.{Exchange}
 use Rattle.sheet.specs.declared.reading.Shown.{Shown}
 use Rattle.sheet.specs.declared.reading.Shown.TheVariants.{Empty, Open, Chosen, Impossible}
 use Rattle.sheet.specs.declared.refusal.Refusal.{Refusal}
+use Rattle.sheet.specs.Table.{greatest_count}
 use Rattle.sheet.specs.History.{card_after, IsBeamAfter, in_after, Stands, designs_after, why_after}
 
 -- a decision stands, and is right for the beam there and the marks that are in stock now
@@ -60,7 +61,7 @@ Tells pile calls (Read p) (answer.Shows reading) = (reading.place ≡ p) × Lawf
 Tells pile calls (Read p) _ = ⊥
 Tells pile calls (Design p) (answer.Shows reading) = (reading.place ≡ p) × Lawful pile (Design p ∷ calls) p reading.shown
 Tells pile calls (Design p) _ = ⊥
-Tells pile calls Count (answer.Designs n) = n ≡ min (designs_after calls) 4294967295
+Tells pile calls Count (answer.Designs n) = n ≡ min (designs_after calls) greatest_count
 Tells pile calls Count _ = ⊥
 Tells pile calls call answer.Done = Unit {0}
 Tells pile calls call _ = ⊥

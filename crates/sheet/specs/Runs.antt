@@ -8,6 +8,7 @@ use Rattle.sheet.specs.declared.call.Call.{Call}
 use Rattle.sheet.specs.declared.reading.Reading.{Reading}
 use Rattle.sheet.specs.declared.refusal.Refusal.{Refusal}
 use Rattle.sheet.specs.declared.table.Table.{Table}
+use Rattle.sheet.specs.Table.{greatest_count}
 use Rattle.sheet.specs.Calls.{New, Makes}
 use Rattle.sheet.specs.History.{why_after, designs_after}
 use Rattle.sheet.specs.Law.{Lawful, Answers}
@@ -28,7 +29,7 @@ ReadsLawfully pile t p r = IfOk r (λ reading. (calls : List Call) → Run pile 
 
 -- a count is that of the designs in every history that led to a table
 unfoldable pub CountsDesigns : (Beam → Cage → ℕ) → Table → ℕ → Type 0
-CountsDesigns pile t n = (calls : List Call) → Run pile calls t → n ≡ min (designs_after calls) 4294967295
+CountsDesigns pile t n = (calls : List Call) → Run pile calls t → n ≡ min (designs_after calls) greatest_count
 
 -- a call of a table is answered as every history that led to it determines
 unfoldable pub AnswersLawfully : (Beam → Cage → ℕ) → Table → Call → Result Answer Refusal → Type 0

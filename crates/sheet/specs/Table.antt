@@ -23,6 +23,10 @@ restocked kind mark is-in t =
     cond (beq (has t.stock kind mark) is-in) t
     (record { places = map (place_reopened kind mark is-in) t.places; stock = with_mark t.stock kind mark is-in; count = t.count })
 
+-- the greatest number of a count
+abbrev pub greatest_count : ℕ
+greatest_count = 4294967295
+
 -- a decision put at the place of its beam, and counted; the count stays at its greatest number
 abbrev pub settled : ℕ → Beam → Decision → Table → Table
-settled p b d t = record { places = slice_set t.places p (Some (decided b d)); stock = t.stock; count = min (t.count + 1) 4294967295 }
+settled p b d t = record { places = slice_set t.places p (Some (decided b d)); stock = t.stock; count = min (t.count + 1) greatest_count }
