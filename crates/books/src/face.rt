@@ -90,7 +90,11 @@ impl<'a> Layout<'a> {
             - 10 * section.cover as u64
             - self.ties.diameter() as u64
             - (self.bars.diameter() as u64).div_ceil(2);
-        straight - (self.rows - 1) * loss_of(self.bars)
+        if self.rows == 1 {
+            straight
+        } else {
+            straight - loss_of(self.bars)
+        }
     }
 
     // How deep the rows stand into the section, in tenths.

@@ -9,8 +9,8 @@ pub(crate) struct Size {
     pub(crate) area: u32,
 }
 
-// By mark, from 3 to 11.
-const SIZES: [Size; 9] = [
+// By mark, from 3 to 11. A `static` and no `const`, since a `const` is copied whole at each use.
+static SIZES: [Size; 9] = [
     Size {
         diameter: 95,
         area: 71,

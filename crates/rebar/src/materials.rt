@@ -12,8 +12,8 @@ struct Grade {
     least_ratio_4200: u32,
 }
 
-// By grade of concrete: 180, 210, 240, 280, 350, 420.
-const GRADES: [Grade; 6] = [
+// By grade of concrete: 180, 210, 240, 280, 350, 420. A `static`, since a `const` is copied whole at each use.
+static GRADES: [Grade; 6] = [
     Grade {
         root: 13416,
         block_factor: 85,
