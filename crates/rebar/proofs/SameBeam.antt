@@ -1,13 +1,12 @@
 -- Beams of the same numbers are the same: the facts in their ghost fields have one proof at most, and their actions are those of
 -- their loads.
-use Rattle.std.proofs.Common.{◌≡◌, ◌∙◌, Bool, true, subst}
+use Rattle.std.proofs.Common.{◌≡◌, true, subst}
 use mathlib.Core.Bool.{Bool-set}
 use mathlib.Core.HLevel.{is_prop→PathP}
 use native.Mathlib.Bridge.{le_prop}
 use mathlib.Core.Sum.{⊎_set}
 use native.Mathlib.Nat.{ℕ_set}
 use Rattle.loads.specs.Actions.{ActionsOf}
-use Rattle.loads.specs.declared.actions.Actions.{Actions}
 use Rattle.loads.specs.declared.loads.Loads.{Loads}
 use Rattle.loads.proofs.Same.{one_actions}
 use Rattle.rebar.specs.Grades.{concrete_grades, steel_grades, shear_factors, is_concrete, is_steel, is_shear_factor}

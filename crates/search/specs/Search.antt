@@ -50,12 +50,18 @@ StandsAgainst floor (Impossible n) = ⊥
 abbrev pub InBand : (Kind → ℕ → Bool) → Beam → Band → Cage → Type 0
 InBand got beam band d = FromStock got d × (band.from ≤ steel beam d) × (steel beam d < band.to)
 
--- the place of a face's bars, and of ties, in the order of the search
+-- the place of a face's bars, and of ties by mark and then by spacing, in the order of the search
 abbrev pub bars_place : Bars → ℕ
 bars_place bars = (bars.mark - 3) * 11 + (bars.number - 2)
 
+abbrev pub mark_place : Ties → ℕ
+mark_place ties = ties.mark - 3
+
+abbrev pub spacing_place : Ties → ℕ
+spacing_place ties = ties.spacing / 25 - 2
+
 abbrev pub ties_place : Ties → ℕ
-ties_place ties = (ties.mark - 3) * 23 + (ties.spacing / 25 - 2)
+ties_place ties = mark_place ties * 23 + spacing_place ties
 
 -- each of the first n elements stands at its place
 abbrev pub IsByPlace : {X : Type 0} → (X → ℕ) → List X → ℕ → Type 0

@@ -1,12 +1,14 @@
-ghost use Rattle.std.specs.Prelude.{◌≡◌};
+ghost use Rattle.std.specs.Prelude.{◌≡◌, ◌<◌};
 ghost use Rattle.rebar.specs.Steel.{bars_steel, ties_steel};
 ghost use Rattle.stock.specs.Stock.{has};
+ghost use Rattle.search.specs.declared.places.TheConstants.{MARKS};
 ghost use Rattle.search.specs.declared.decision.Decision.{Decision};
 ghost use Rattle.search.specs.Lightest.{FromStock, Lightest};
-ghost use Rattle.search.specs.Search.{MainIn, Sound, Step, Done, InBand};
+ghost use Rattle.search.specs.Search.{MainIn, TieIn, Sound, Step, Done, InBand, mark_place};
 
 use crate::band::{Band, HEAVIEST};
 use crate::decision::{Choice, Decision};
+use crate::places::{MARKS, SPACINGS};
 use crate::searching::Search;
 use crate::weighed::{WeighedBars, WeighedTies};
 use books::book::Book;
@@ -15,7 +17,7 @@ use rebar::cage::Cage;
 use stock::stock::Stock;
 
 impl<P: Book> Search<'_, P> {
-    // The decision with the cage of these bars and ties, where it is from stock and in a band.
+    // The decision with the cage of these bars and ties, where it is in a band.
     fn weigh_cage(
         &self,
         band: &Band,
@@ -24,13 +26,13 @@ impl<P: Book> Search<'_, P> {
         ties: &WeighedTies,
         best: Decision,
     ) -> Decision
-        requires bars_in { MainIn (has self.now.stock.now) bottom.now.bars × MainIn (has self.now.stock.now) top.now.bars }
+        requires all_in { MainIn (has self.now.stock.now) bottom.now.bars × MainIn (has self.now.stock.now) top.now.bars × TieIn (has self.now.stock.now) ties.now.ties }
         requires weighed { (bottom.now.steel ≡ bars_steel self.now.beam.now bottom.now.bars) × (top.now.steel ≡ bars_steel self.now.beam.now top.now.bars) × (ties.now.steel ≡ ties_steel self.now.beam.now ties.now.ties) }
         ensures step { Step (P.answer self.now.pile.now) (has self.now.stock.now) self.now.beam.now best result }
         ensures done { Done (P.answer self.now.pile.now) self.now.beam.now (λ d. InBand (has self.now.stock.now) self.now.beam.now band.now d × (d.bottom ≡ bottom.now.bars) × (d.top ≡ top.now.bars) × (d.ties ≡ ties.now.ties)) result }
     {
         let steel = bottom.steel + top.steel + ties.steel;
-        if !self.stock.has_ties(&ties.ties) || !band.holds(steel) {
+        if !band.holds(steel) {
             return best;
         }
         let cage = Cage {
@@ -39,6 +41,43 @@ impl<P: Book> Search<'_, P> {
             ties: ties.ties,
         };
         self.weigh(Choice { cage, steel }, best)
+    }
+
+    // The decision with the cages of one bottom, one top and the ties of one mark in a band; with no look at them where none is
+    // from stock and in the band. The steel of ties does not rise with their spacing, so that below the band are none.
+    fn weigh_spacings(
+        &self,
+        band: &Band,
+        bottom: &WeighedBars,
+        top: &WeighedBars,
+        mark: usize,
+        best: Decision,
+    ) -> Decision
+        requires marked { mark < MARKS }
+        requires bars_in { MainIn (has self.now.stock.now) bottom.now.bars × MainIn (has self.now.stock.now) top.now.bars }
+        requires weighed { (bottom.now.steel ≡ bars_steel self.now.beam.now bottom.now.bars) × (top.now.steel ≡ bars_steel self.now.beam.now top.now.bars) }
+        ensures step { Step (P.answer self.now.pile.now) (has self.now.stock.now) self.now.beam.now best result }
+        ensures done { Done (P.answer self.now.pile.now) self.now.beam.now (λ d. InBand (has self.now.stock.now) self.now.beam.now band.now d × (d.bottom ≡ bottom.now.bars) × (d.top ≡ top.now.bars) × (mark_place d.ties ≡ mark)) result }
+    {
+        let faces = bottom.steel + top.steel;
+        let first = SPACINGS * mark;
+        let all = &self.ties;
+        let ties = &all[first..first + SPACINGS];
+        let closest = ties[0];
+        let widest = ties[SPACINGS - 1];
+        if !band.meets(faces + widest.steel, faces + closest.steel)
+            || !self.stock.has_ties(&closest.ties)
+        {
+            return best;
+        }
+        let mut found = best;
+        for t in ties {
+            if faces + t.steel < band.from {
+                break;
+            }
+            found = self.weigh_cage(band, bottom, top, t, found);
+        }
+        found
     }
 
     // The decision with the cages of one bottom and one top in a band; with no look at them where none is from stock and in the
@@ -57,15 +96,15 @@ impl<P: Book> Search<'_, P> {
     {
         let lightest = bottom.steel + top.steel + self.least;
         let heaviest = bottom.steel + top.steel + self.most;
-        if !self.stock.has_bars(&top.bars)
-            || !band.meets(lightest, heaviest)
+        if !band.meets(lightest, heaviest)
+            || !self.stock.has_bars(&top.bars)
             || best.stands_against(lightest)
         {
             return best;
         }
         let mut found = best;
-        for ties in &self.ties {
-            found = self.weigh_cage(band, bottom, top, ties, found);
+        for mark in 0..MARKS {
+            found = self.weigh_spacings(band, bottom, top, mark, found);
         }
         found
     }

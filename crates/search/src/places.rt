@@ -11,8 +11,12 @@ use std::array;
 // How many bars of a face there are: nine marks, each in eleven numbers.
 pub(crate) const BARS: usize = 99;
 
-// How many ties there are: three marks, each at 23 spacings.
-pub(crate) const TIES: usize = 69;
+// How many marks of ties there are, at how many spacings each, and how many ties.
+pub(crate) const MARKS: usize = 3;
+
+pub(crate) const SPACINGS: usize = 23;
+
+pub(crate) const TIES: usize = MARKS * SPACINGS;
 
 // The bars of a face at a place, by mark and then by number, with their steel in a beam.
 fn bars_at(beam: &Beam, k: usize) -> WeighedBars
@@ -35,8 +39,8 @@ fn ties_at(beam: &Beam, k: usize) -> WeighedTies
     ensures weighed { result.steel ≡ ties_steel beam.now result.ties }
 {
     let ties = Ties {
-        mark: 3 + (k / 23) as u8,
-        spacing: 50 + 25 * (k % 23) as u16,
+        mark: 3 + (k / SPACINGS) as u8,
+        spacing: 50 + 25 * (k % SPACINGS) as u16,
     };
     let steel = beam.ties_steel(&ties);
     WeighedTies { ties, steel }
