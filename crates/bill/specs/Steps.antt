@@ -4,7 +4,7 @@ use Rattle.sheet.specs.declared.reading.Reading.{Reading}
 use Rattle.sheet.specs.declared.reading.Shown.{Shown}
 use Rattle.sheet.specs.declared.reading.Shown.TheVariants.{Empty, Open, Chosen, Impossible}
 use Rattle.bill.specs.Text.{put}
-use Rattle.bill.specs.Bill.{line_text, total_text, head_text}
+use Rattle.bill.specs.Bill.{most_lines, line_text, total_text, head_text}
 use Rattle.bill.specs.declared.bill.Begun.{Begun}
 use Rattle.bill.specs.declared.bill.Refused.{Refused}
 use Rattle.bill.specs.declared.bill.Totalled.{Totalled}
@@ -15,11 +15,11 @@ use Rattle.bill.specs.declared.refusal.Refusal.TheVariants.{PageShort, NotChosen
 abbrev pub short : List ℕ → ℕ → List ℕ → Option Refusal
 short page w bs = cond (nat_lt (length page) (w + length bs)) (Some PageShort) None
 
--- why a line is refused: the place is not chosen, the bill has 64 lines, the page is short
+-- why a line is refused: the place is not chosen, the bill has as many lines as it may, the page is short
 abbrev pub why_line : Begun → List ℕ → ℕ → Shown → Option Refusal
 why_line b page place Empty = Some NotChosen
 why_line b page place Open = Some NotChosen
-why_line b page place (Chosen x) = cond (nat_lt b.lines 64) (short page b.written (line_text place x)) (Some Full)
+why_line b page place (Chosen x) = cond (nat_lt b.lines most_lines) (short page b.written (line_text place x)) (Some Full)
 why_line b page place (Impossible n) = Some NotChosen
 
 -- bs was put on the page after the bytes so far, w of them, and there are v bytes now

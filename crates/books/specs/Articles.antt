@@ -10,7 +10,7 @@ use Rattle.rebar.specs.declared.cage.Bars.{Bars}
 use Rattle.rebar.specs.declared.cage.Ties.{Ties}
 use Rattle.rebar.specs.declared.cage.Cage.{Cage}
 use Rattle.books.specs.Rules.{Rule, ◌≼◌, ◌≺◌, ◌and◌, ◌or◌, Article, article}
-use Rattle.books.specs.Numbers.{room, row_length, outer_of, face_depth, d_of, q_of, z_of, vc_of, vm_of, vs_of}
+use Rattle.books.specs.Numbers.{clear_distance, y_of, room, row_length, outer_of, face_depth, d_of, q_of, z_of, vc_of, vm_of, vs_of}
 
 -- 1, 2: the outer row fits
 abbrev pub outer_row_fits : Section → Materials → Ties → Bars → Rule
@@ -18,7 +18,7 @@ outer_row_fits s m t x = row_length m x (outer_of s m t x) ≼ room s t
 
 -- 3: the faces stand apart (R-033, Article 117)
 abbrev pub faces_apart : Section → ℕ → ℕ → Rule
-faces_apart s bottom top = bottom + top + 250 ≼ 10 * s.height
+faces_apart s bottom top = bottom + top + clear_distance ≼ 10 * s.height
 
 -- 4, 5: net strain 0.005 at least, measured at d
 abbrev pub ductile : Section → Materials → ℕ → ℕ → Rule
@@ -48,7 +48,7 @@ ties_bear p v vc vs = 10 * v ≼ p * (vc + vs)
 -- 12: the least ties, where the shear passes half of what the concrete bears (R-033, Article 137)
 abbrev pub least_ties : Section → Materials → ℕ → Ties → ℕ → ℕ → Rule
 least_ties s m p t v vc =
-    20 * v ≼ p * vc or 7 * s.width * t.spacing ≼ 400 * bar_area t.mark * (m.steel / 100)
+    20 * v ≼ p * vc or 7 * s.width * t.spacing ≼ 400 * bar_area t.mark * y_of m
 
 -- 13: the widest spacing, half of it where the ties bear much (R-033, Article 137)
 abbrev pub close_enough : Ties → ℕ → ℕ → ℕ → Rule

@@ -5,6 +5,7 @@ use Rattle.rebar.specs.declared.cage.Bars.{Bars}
 use Rattle.rebar.specs.declared.cage.Ties.{Ties}
 use Rattle.rebar.specs.declared.cage.Cage.{Cage}
 use Rattle.rebar.specs.Order.{numbers, Before}
+use Rattle.rebar.specs.Ranges.{count, main_marks, tie_marks, bar_numbers, spacings, spacing_step, spacing_count}
 use Rattle.rebar.specs.Steel.{steel}
 use Rattle.books.specs.Answers.{Passes}
 use Rattle.stock.specs.declared.kind.Kind.{Kind}
@@ -52,10 +53,10 @@ InBand got beam band d = FromStock got d × (band.from ≤ steel beam d) × (ste
 
 -- the place of a face's bars, and of ties, in the order of the search
 abbrev pub bars_place : Bars → ℕ
-bars_place bars = (bars.mark - 3) * 11 + (bars.number - 2)
+bars_place bars = (bars.mark - main_marks.least) * count bar_numbers + (bars.number - bar_numbers.least)
 
 abbrev pub ties_place : Ties → ℕ
-ties_place ties = (ties.mark - 3) * 23 + (ties.spacing / 25 - 2)
+ties_place ties = (ties.mark - tie_marks.least) * spacing_count + (ties.spacing - spacings.least) / spacing_step
 
 -- each of the first n elements stands at its place
 abbrev pub IsByPlace : {X : Type 0} → (X → ℕ) → List X → ℕ → Type 0

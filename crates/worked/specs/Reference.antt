@@ -1,11 +1,12 @@
 -- The reference beam: 300 by 500 mm, cover 40, concrete 210, steel 4200, span 5,000, dead and live load.
-use Rattle.std.specs.Prelude.{◌≡◌, ℕ, Bool, true, T, nat_le, refl, ℤ, pos, negsuc}
+use Rattle.std.specs.Prelude.{◌≡◌, ℕ, Bool, true, T, nat_le, refl, ℤ, pos, negsuc, neg_ℤ}
 use Rattle.std.proofs.Common.{lit≤}
 use lib.Signed.{le_z, le_z_yes}
 use Rattle.loads.specs.declared.loads.Force.{Force}
 use Rattle.loads.specs.declared.loads.Case.{Case}
 use Rattle.loads.specs.declared.loads.Loads.{Loads}
 use Rattle.loads.specs.declared.actions.Actions.{Actions}
+use Rattle.loads.specs.Effects.{greatest_effect}
 use Rattle.loads.specs.Combinations.{rows}
 use Rattle.loads.specs.Actions.{ActionsOf}
 use Rattle.rebar.specs.Grades.{is_concrete, is_steel, is_shear_factor}
@@ -51,7 +52,7 @@ reference_member in_frame =
     record { in_frame = in_frame; span = 5000; shear_factor = 75; spans = (lit≤ tt, lit≤ tt); reduces = (lit≤ tt, lit≤ tt); listed = listed_75 }
 
 -- a moment and a shear
-abbrev pub force : (m v : ℤ) → T (le_z (negsuc 99999) m) → T (le_z m (pos 100000)) → T (le_z (negsuc 99999) v) → T (le_z v (pos 100000)) → Force
+abbrev pub force : (m v : ℤ) → T (le_z (neg_ℤ (pos greatest_effect)) m) → T (le_z m (pos greatest_effect)) → T (le_z (neg_ℤ (pos greatest_effect)) v) → T (le_z v (pos greatest_effect)) → Force
 force m v a b c d = record { moment = m; shear = v; bends = (le_z_yes a, le_z_yes b); cuts = (le_z_yes c, le_z_yes d) }
 
 -- the two cases that act: a moment and a shear at each station
