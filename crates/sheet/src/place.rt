@@ -10,6 +10,7 @@ pub(crate) struct Place {
     ghost placed: { number < 64 },
 }
 
+// The place with a number, where there is one.
 impl TryFrom<u8> for Place {
     type Error = Refusal;
 
