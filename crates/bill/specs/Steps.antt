@@ -43,14 +43,17 @@ Added b page place (Impossible n) b' page' = ⊥
 abbrev pub Back : Begun → List ℕ → Option Refusal → Refused → List ℕ → Type 0
 Back b page why e page' = (why ≡ Some e.refusal) × (e.bill ≡ b) × (page' ≡ page)
 
+-- a begin: the head is on the page and the bill has no line, or the first refusal and nothing has changed
 abbrev pub BegunAs : List ℕ → Result Begun Refusal → List ℕ → Type 0
 BegunAs page (Ok b) page' = (short page 0 head_text ≡ None) × Puts page 0 head_text b.written page' × (b.lines ≡ 0) × (b.steel ≡ 0)
 BegunAs page (Err e) page' = (short page 0 head_text ≡ Some e) × (page' ≡ page)
 
+-- a line: it is added, or the bill is handed back with the first refusal
 abbrev pub LineAs : Begun → List ℕ → Reading → Result Begun Refused → List ℕ → Type 0
 LineAs b page rd (Ok b') page' = (why_line b page rd.place rd.shown ≡ None) × Added b page rd.place rd.shown b' page'
 LineAs b page rd (Err e) page' = Back b page (why_line b page rd.place rd.shown) e page'
 
+-- a total: it is on the page, or the bill is handed back with the refusal
 abbrev pub TotalAs : Begun → List ℕ → Result Totalled Refused → List ℕ → Type 0
 TotalAs b page (Ok t) page' =
     (short page b.written (total_text b.lines b.steel) ≡ None)

@@ -11,6 +11,7 @@ use rebar::cage::Cage;
 pub trait Book {
     ghost answer: { Self → Beam → Cage → ℕ };
 
+    // The answer to a beam and a cage, always the same for the same pair.
     fn check(&self, beam: &Beam, cage: &Cage) -> u8
         ensures answers_its_meaning { result ≡ answer self.now beam.now cage.now };
 }

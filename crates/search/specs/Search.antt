@@ -16,10 +16,11 @@ use Rattle.search.specs.declared.decision.Decision.{Decision}
 use Rattle.search.specs.declared.decision.Decision.TheVariants.{Chosen, Impossible}
 use Rattle.search.specs.Lightest.{FromStock}
 
--- the mark of these bars, and of these ties, is in, where `got` says which are
+-- the mark of these bars is in, where `got` says which are
 abbrev pub MainIn : (Kind → ℕ → Bool) → Bars → Type 0
 MainIn got bars = T (got Main bars.mark)
 
+-- the same of ties
 abbrev pub TieIn : (Kind → ℕ → Bool) → Ties → Type 0
 TieIn got ties = T (got Tie ties.mark)
 
@@ -51,10 +52,11 @@ StandsAgainst floor (Impossible n) = ⊥
 abbrev pub InBand : (Kind → ℕ → Bool) → Beam → Band → Cage → Type 0
 InBand got beam band d = FromStock got d × (band.from ≤ steel beam d) × (steel beam d < band.to)
 
--- the place of a face's bars, and of ties, in the order of the search
+-- the place of a face's bars in the order of the search
 abbrev pub bars_place : Bars → ℕ
 bars_place bars = (bars.mark - main_marks.least) * count bar_numbers + (bars.number - bar_numbers.least)
 
+-- the place of ties in the order of the search
 abbrev pub ties_place : Ties → ℕ
 ties_place ties = (ties.mark - tie_marks.least) * spacing_count + (ties.spacing - spacings.least) / spacing_step
 

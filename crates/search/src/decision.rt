@@ -16,5 +16,5 @@ pub struct Choice {
 #[derive(Clone, Copy)]
 pub enum Decision {
     Chosen(Choice),
-    Impossible(u8),
+    Impossible(u8), // the greatest number that refused one
 }

@@ -92,11 +92,12 @@ abbrev pub refusal : {A : Type 0} → Result A Refusal → Option Refusal
 refusal (Ok x) = None
 refusal (Err e) = Some e
 
--- the answer to a call that only changes the sheet, to one that reads, and to one that counts
+-- the answer to a call that only changes the sheet
 abbrev pub done : Result Unit Refusal → Result Answer Refusal
 done (Ok x) = Ok answer.Done
 done (Err e) = Err e
 
+-- the answer to a call that reads a place
 abbrev pub shows : Result Reading Refusal → Result Answer Refusal
 shows (Ok reading) = Ok (answer.Shows reading)
 shows (Err e) = Err e

@@ -11,6 +11,7 @@ pub(crate) struct Place {
     ghost placed: { number ≤ last_place },
 }
 
+// The place with a number, where there is one.
 impl TryFrom<u8> for Place {
     type Error = Refusal;
 

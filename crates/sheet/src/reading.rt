@@ -11,7 +11,7 @@ pub enum Shown {
     Empty,
     Open,
     Chosen(Choice),
-    Impossible(u8),
+    Impossible(u8), // the greatest number that refused a cage
 }
 
 // What is read of a place of the sheet.

@@ -19,11 +19,12 @@ use Rattle.rebar.specs.declared.beam.Beam.{Beam}
 abbrev pub reference_section : Section
 reference_section = record { width = 300; height = 500; cover = 40; wide = (lit≤ tt, lit≤ tt); high = (lit≤ tt, lit≤ tt); covered = (lit≤ tt, lit≤ tt) }
 
--- there is concrete of grade 210, steel of grade 4200 and a shear factor 75
+-- there is concrete of grade 210
 pub graded_210 : is_concrete 210 ≡ true
 unfolding is_concrete
 graded_210 = refl
 
+-- there is steel of grade 4200
 pub rolled_4200 : is_steel 4200 ≡ true
 unfolding is_steel
 rolled_4200 = refl
@@ -42,6 +43,7 @@ reference_materials =
       coarse = (lit≤ tt, lit≤ tt);
     }
 
+-- there is a shear factor 75
 pub listed_75 : is_shear_factor 75 ≡ true
 unfolding is_shear_factor
 listed_75 = refl
@@ -55,7 +57,7 @@ reference_member in_frame =
 abbrev pub force : (m v : ℤ) → T (le_z (neg_ℤ (pos greatest_effect)) m) → T (le_z m (pos greatest_effect)) → T (le_z (neg_ℤ (pos greatest_effect)) v) → T (le_z v (pos greatest_effect)) → Force
 force m v a b c d = record { moment = m; shear = v; bends = (le_z_yes a, le_z_yes b); cuts = (le_z_yes c, le_z_yes d) }
 
--- the two cases that act: a moment and a shear at each station
+-- the dead load: a moment and a shear at each station
 abbrev pub dead : Case
 dead =
     record {
@@ -64,6 +66,7 @@ dead =
       right = force (negsuc 3999) (negsuc 4999) tt tt tt tt;
     }
 
+-- the live load
 abbrev pub live : Case
 live =
     record {

@@ -31,13 +31,15 @@ bars n mark a b c d = record { mark = mark; number = n; marked = (lit≤ c, lit�
 abbrev pub ties_at : (s : ℕ) → T (nat_le spacings.least s) → T (nat_le s spacings.most) → s % spacing_step ≡ 0 → Ties
 ties_at s a b c = record { mark = 3; spacing = s; marked = (lit≤ tt, lit≤ tt); spaced = ((lit≤ a, lit≤ b), c) }
 
--- the faces of the examples: so many #5 bars
+-- the faces of the examples: two #5 bars
 abbrev pub two : Bars
 two = bars 2 5 tt tt tt tt
 
+-- three of them
 abbrev pub three : Bars
 three = bars 3 5 tt tt tt tt
 
+-- four of them
 abbrev pub four : Bars
 four = bars 4 5 tt tt tt tt
 
