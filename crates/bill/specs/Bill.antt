@@ -5,6 +5,10 @@ use Rattle.rebar.specs.declared.cage.Ties.{Ties}
 use Rattle.search.specs.declared.decision.Choice.{Choice}
 use Rattle.bill.specs.Text.{two}
 
+-- a bill has no more lines than this
+abbrev pub most_lines : ℕ
+most_lines = 64
+
 -- number#mark
 abbrev pub bars_text : Bars → List ℕ
 bars_text b = decimal b.number ++ (codes "#" ++ decimal b.mark)

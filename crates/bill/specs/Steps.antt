@@ -4,7 +4,7 @@ use Rattle.sheet.specs.declared.reading.Reading.{Reading}
 use Rattle.sheet.specs.declared.reading.Shown.{Shown}
 use Rattle.sheet.specs.declared.reading.Shown.TheVariants.{Empty, Open, Chosen, Impossible}
 use Rattle.bill.specs.Text.{put}
-use Rattle.bill.specs.Bill.{line_text, total_text, head_text}
+use Rattle.bill.specs.Bill.{most_lines, line_text, total_text, head_text}
 use Rattle.bill.specs.declared.bill.Begun.{Begun}
 use Rattle.bill.specs.declared.bill.Refused.{Refused}
 use Rattle.bill.specs.declared.bill.Totalled.{Totalled}
@@ -15,11 +15,11 @@ use Rattle.bill.specs.declared.refusal.Refusal.TheVariants.{PageShort, NotChosen
 abbrev pub short : List ℕ → ℕ → List ℕ → Option Refusal
 short page w bs = cond (nat_lt (length page) (w + length bs)) (Some PageShort) None
 
--- why a line is refused: the place is not chosen, the bill has 64 lines, the page is short
+-- why a line is refused: the place is not chosen, the bill has as many lines as it may, the page is short
 abbrev pub why_line : Begun → List ℕ → ℕ → Shown → Option Refusal
 why_line b page place Empty = Some NotChosen
 why_line b page place Open = Some NotChosen
-why_line b page place (Chosen x) = cond (nat_lt b.lines 64) (short page b.written (line_text place x)) (Some Full)
+why_line b page place (Chosen x) = cond (nat_lt b.lines most_lines) (short page b.written (line_text place x)) (Some Full)
 why_line b page place (Impossible n) = Some NotChosen
 
 -- bs was put on the page after the bytes so far, w of them, and there are v bytes now
@@ -43,14 +43,17 @@ Added b page place (Impossible n) b' page' = ⊥
 abbrev pub Back : Begun → List ℕ → Option Refusal → Refused → List ℕ → Type 0
 Back b page why e page' = (why ≡ Some e.refusal) × (e.bill ≡ b) × (page' ≡ page)
 
+-- a begin: the head is on the page and the bill has no line, or the first refusal and nothing has changed
 abbrev pub BegunAs : List ℕ → Result Begun Refusal → List ℕ → Type 0
 BegunAs page (Ok b) page' = (short page 0 head_text ≡ None) × Puts page 0 head_text b.written page' × (b.lines ≡ 0) × (b.steel ≡ 0)
 BegunAs page (Err e) page' = (short page 0 head_text ≡ Some e) × (page' ≡ page)
 
+-- a line: it is added, or the bill is handed back with the first refusal
 abbrev pub LineAs : Begun → List ℕ → Reading → Result Begun Refused → List ℕ → Type 0
 LineAs b page rd (Ok b') page' = (why_line b page rd.place rd.shown ≡ None) × Added b page rd.place rd.shown b' page'
 LineAs b page rd (Err e) page' = Back b page (why_line b page rd.place rd.shown) e page'
 
+-- a total: it is on the page, or the bill is handed back with the refusal
 abbrev pub TotalAs : Begun → List ℕ → Result Totalled Refused → List ℕ → Type 0
 TotalAs b page (Ok t) page' =
     (short page b.written (total_text b.lines b.steel) ≡ None)

@@ -1,4 +1,5 @@
 ghost use Rattle.std.specs.Prelude.{◌*◌, ◌≤◌};
+ghost use Rattle.bill.specs.Bill.{most_lines};
 
 use crate::refusal::Refusal;
 
@@ -10,7 +11,7 @@ pub struct Begun {
     written: usize,
     lines: u8,
     steel: u64,
-    ghost few: { lines ≤ 64 },
+    ghost few: { lines ≤ most_lines },
     ghost light: { steel ≤ lines * 4294967295 },
 }
 

@@ -4,9 +4,9 @@ ghost use Rattle.bill.specs.Refusals.{refusal_number};
 // Why a step is refused.
 #[derive(Clone, Copy, Debug, PartialEq, Eq)]
 pub enum Refusal {
-    PageShort,
-    NotChosen,
-    Full,
+    PageShort, // there is no room on it for the new bytes
+    NotChosen, // the reading is not of a chosen place
+    Full, // it has 64 lines
 }
 
 // The number under which the refusal is reported.

@@ -62,10 +62,10 @@ own_answer lower own r z e = grind (arith, nat_tests)
 pub lower_answer : (lower own r : ℕ) → r ≡ lower → r ≢ 0 → r ≡ over lower own
 lower_answer lower own r e ne = grind (arith, nat_tests)
 
-when_own : (lower own r : ℕ) → r ≡ over lower own → lower ≡ 0 → r ≡ own
+pub when_own : (lower own r : ℕ) → r ≡ over lower own → lower ≡ 0 → r ≡ own
 when_own lower own r e z = grind (arith, nat_tests)
 
-when_lower : (lower own r : ℕ) → r ≡ over lower own → lower ≢ 0 → r ≡ lower
+pub when_lower : (lower own r : ℕ) → r ≡ over lower own → lower ≢ 0 → r ≡ lower
 when_lower lower own r e ne = grind (arith, nat_tests)
 
 -- what such an answer says of the layer's own articles

@@ -18,16 +18,24 @@ IsFor row beam cage =
 abbrev pub Allows : ApprovedRow → Actions → Type 0
 Allows row actions = (actions.bottom ≤ row.bottom) × (actions.top ≤ row.top) × (actions.shear ≤ row.shear)
 
--- 60: no row is for them
+-- the number where no row is for a beam and a cage
+abbrev pub no_row : ℕ
+no_row = 60
+
+-- the number where some are, and none of these allows all three actions
+abbrev pub none_allows : ℕ
+none_allows = 61
+
+-- no row is for them
 abbrev pub NoneIsFor : List ApprovedRow → Beam → Cage → Type 0
 NoneIsFor rows beam cage = All (λ row. ¬ IsFor row beam cage) rows
 
--- 61: some are, and none of these allows all three actions
+-- some are, and none of these allows all three actions
 abbrev pub NoneOfThemAllows : List ApprovedRow → Beam → Cage → Type 0
 NoneOfThemAllows rows beam cage =
     Any (λ row. IsFor row beam cage) rows × All (λ row. IsFor row beam cage → ¬ Allows row beam.actions) rows
 
--- 0: one single row is for them and allows all three
+-- one single row is for them and allows all three
 abbrev pub OneAllows : List ApprovedRow → Beam → Cage → Type 0
 OneAllows rows beam cage = Any (λ row. IsFor row beam cage × Allows row beam.actions) rows
 
@@ -49,4 +57,4 @@ approves beam cage row = is_for row beam cage && allows row beam.actions
 -- the book's meaning
 unfoldable pub approved_answer : List ApprovedRow → Beam → Cage → ℕ
 approved_answer rows beam cage =
-    cond (list_any (approves beam cage) rows) 0 (cond (list_any (λ row. is_for row beam cage) rows) 61 60)
+    cond (list_any (approves beam cage) rows) 0 (cond (list_any (λ row. is_for row beam cage) rows) none_allows no_row)

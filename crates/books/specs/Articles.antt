@@ -1,5 +1,5 @@
 -- The articles of the general book, each as the inequality that it asks.
-use Rattle.std.specs.Prelude.{ℕ, ◌+◌, ◌*◌, ◌/◌, List, [], ◌∷◌}
+use Rattle.std.specs.Prelude.{ℕ, ◌+◌, ◌*◌, List, [], ◌∷◌, ◌++◌}
 use Rattle.rebar.specs.Marks.{bar_area, face_area}
 use Rattle.rebar.specs.Grades.{block_factor_of, least_ratio_of}
 use Rattle.rebar.specs.declared.section.Section.{Section}
@@ -10,7 +10,7 @@ use Rattle.rebar.specs.declared.cage.Bars.{Bars}
 use Rattle.rebar.specs.declared.cage.Ties.{Ties}
 use Rattle.rebar.specs.declared.cage.Cage.{Cage}
 use Rattle.books.specs.Rules.{Rule, ◌≼◌, ◌≺◌, ◌and◌, ◌or◌, Article, article}
-use Rattle.books.specs.Numbers.{room, row_length, outer_of, face_depth, d_of, q_of, z_of, vc_of, vm_of, vs_of}
+use Rattle.books.specs.Numbers.{clear_distance, y_of, room, row_length, outer_of, face_depth, d_of, q_of, z_of, vc_of, vm_of, vs_of}
 
 -- 1, 2: the outer row fits
 abbrev pub outer_row_fits : Section → Materials → Ties → Bars → Rule
@@ -18,7 +18,7 @@ outer_row_fits s m t x = row_length m x (outer_of s m t x) ≼ room s t
 
 -- 3: the faces stand apart (R-033, Article 117)
 abbrev pub faces_apart : Section → ℕ → ℕ → Rule
-faces_apart s bottom top = bottom + top + 250 ≼ 10 * s.height
+faces_apart s bottom top = bottom + top + clear_distance ≼ 10 * s.height
 
 -- 4, 5: net strain 0.005 at least, measured at d
 abbrev pub ductile : Section → Materials → ℕ → ℕ → Rule
@@ -48,7 +48,7 @@ ties_bear p v vc vs = 10 * v ≼ p * (vc + vs)
 -- 12: the least ties, where the shear passes half of what the concrete bears (R-033, Article 137)
 abbrev pub least_ties : Section → Materials → ℕ → Ties → ℕ → ℕ → Rule
 least_ties s m p t v vc =
-    20 * v ≼ p * vc or 7 * s.width * t.spacing ≼ 400 * bar_area t.mark * (m.steel / 100)
+    20 * v ≼ p * vc or 7 * s.width * t.spacing ≼ 400 * bar_area t.mark * y_of m
 
 -- 13: the widest spacing, half of it where the ties bear much (R-033, Article 137)
 abbrev pub close_enough : Ties → ℕ → ℕ → ℕ → Rule
@@ -64,9 +64,9 @@ in_shear s m p v t z =
     ∷ article 13 (close_enough t z (vc_of s m z) (vs_of m t z))
     ∷ []
 
--- the general book
-abbrev pub general : Section → Materials → Member → Actions → Cage → List Article
-general s m member a c =
+-- articles 1 to 9, which look at the ties' mark and not at their spacing
+abbrev pub of_bars : Section → Materials → Actions → Cage → List Article
+of_bars s m a c =
     let t : Ties = c.ties in
     let d : ℕ = d_of s m t c.bottom in
     let e : ℕ = d_of s m t c.top in
@@ -79,4 +79,8 @@ general s m member a c =
     ∷ article 7 (bends s m a.top (q_of m c.top) e)
     ∷ article 8 (least_steel_under s m a.bottom (face_area c.bottom) d)
     ∷ article 9 (least_steel_under s m a.top (face_area c.top) e)
-    ∷ in_shear s m member.shear_factor a.shear t (z_of s m c)
+    ∷ []
+
+-- the general book
+abbrev pub general : Section → Materials → Member → Actions → Cage → List Article
+general s m member a c = of_bars s m a c ++ in_shear s m member.shear_factor a.shear c.ties (z_of s m c)

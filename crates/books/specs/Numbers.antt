@@ -8,6 +8,14 @@ use Rattle.rebar.specs.declared.cage.Bars.{Bars}
 use Rattle.rebar.specs.declared.cage.Ties.{Ties}
 use Rattle.rebar.specs.declared.cage.Cage.{Cage}
 
+-- the clear distance between the rows of a face, and between the two faces, in tenths of a mm (R-033, Articles 115 and 117)
+abbrev pub clear_distance : ℕ
+clear_distance = 250
+
+-- y, a hundredth of the grade of the steel
+abbrev pub y_of : Materials → ℕ
+y_of m = m.steel / 100
+
 -- the clear gap between bars of diameter w, in hundredths of a mm (R-033, Article 115)
 abbrev pub gap : Materials → ℕ → ℕ
 gap m w = max (max (10 * w) 2500) (133 * m.aggregate)
@@ -30,7 +38,7 @@ outer_of s m t x = cond (nat_le (row_length m x x.number) (room s t)) x.number (
 
 -- what the effective depth loses to a second row, in tenths, rounded up
 abbrev pub second_row_loss : Bars → ℕ
-second_row_loss x = ((bar_diameter x.mark + 250) * (x.number / 2) + (x.number - 1)) / x.number
+second_row_loss x = ((bar_diameter x.mark + clear_distance) * (x.number / 2) + (x.number - 1)) / x.number
 
 -- the effective depth of a face whose bars lie in k rows, in tenths of a mm
 abbrev pub effective_depth : Section → Ties → Bars → ℕ → ℕ
@@ -39,7 +47,7 @@ effective_depth s t x k =
 
 -- how deep k rows of a face's bars stand into the section, in tenths
 abbrev pub rows_depth : Section → Ties → Bars → ℕ → ℕ
-rows_depth s t x k = 10 * s.cover + bar_diameter t.mark + bar_diameter x.mark * k + 250 * (k - 1)
+rows_depth s t x k = 10 * s.cover + bar_diameter t.mark + bar_diameter x.mark * k + clear_distance * (k - 1)
 
 -- d, the effective depth of a face
 abbrev pub d_of : Section → Materials → Ties → Bars → ℕ
@@ -51,7 +59,7 @@ face_depth s m t x = rows_depth s t x (rows_of s m t x)
 
 -- q, the force of a face's bars at yield
 abbrev pub q_of : Materials → Bars → ℕ
-q_of m x = face_area x * (m.steel / 100)
+q_of m x = face_area x * y_of m
 
 -- z, the smaller effective depth of a cage
 abbrev pub z_of : Section → Materials → Cage → ℕ
@@ -71,4 +79,4 @@ vm_of s m z = concrete_shear 265 s m z
 
 -- vs, what the ties bear
 abbrev pub vs_of : Materials → Ties → ℕ → ℕ
-vs_of m t z = bar_area t.mark * (m.steel / 100) * z / (5 * t.spacing)
+vs_of m t z = bar_area t.mark * y_of m * z / (5 * t.spacing)

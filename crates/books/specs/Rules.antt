@@ -30,6 +30,7 @@ pub record Article : Type 0 where
   pub number : ℕ
   pub rule : Rule
 
+-- the article of this number and rule
 abbrev pub article : ℕ → Rule → Article
 article n r = record { number = n; rule = r }
 

@@ -1,5 +1,5 @@
 ghost use Rattle.std.specs.Prelude.{◌≡◌, ◌↔◌};
-ghost use Rattle.books.specs.Approved.{approved_answer, NoneIsFor, OneAllows, NoneOfThemAllows};
+ghost use Rattle.books.specs.Approved.{no_row, none_allows, approved_answer, NoneIsFor, OneAllows, NoneOfThemAllows};
 
 use crate::approved_row::ApprovedRow;
 use crate::book::Book;
@@ -17,8 +17,8 @@ impl Book for Approved<'_> {
 
     fn check(&self, beam: &Beam, cage: &Cage) -> u8
         ensures answers_its_meaning { result ≡ approved_answer self.now.rows.now beam.now cage.now }
-        ensures unknown_exactly_when_no_row_is_for_them { (result ≡ 60) ↔ NoneIsFor self.now.rows.now beam.now cage.now }
-        ensures refused_exactly_when_none_of_those_allows_all { (result ≡ 61) ↔ NoneOfThemAllows self.now.rows.now beam.now cage.now }
+        ensures unknown_exactly_when_no_row_is_for_them { (result ≡ no_row) ↔ NoneIsFor self.now.rows.now beam.now cage.now }
+        ensures refused_exactly_when_none_of_those_allows_all { (result ≡ none_allows) ↔ NoneOfThemAllows self.now.rows.now beam.now cage.now }
         ensures passes_exactly_when_one_row_allows_all { (result ≡ 0) ↔ OneAllows self.now.rows.now beam.now cage.now }
     {
         let mut is_known = false;

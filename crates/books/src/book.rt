@@ -1,6 +1,7 @@
-ghost use Rattle.std.specs.Prelude.{◌≡◌, ℕ};
+ghost use Rattle.std.specs.Prelude.{◌≡◌, ℕ, MatchOption};
 ghost use Rattle.rebar.specs.declared.beam.Beam.{Beam};
 ghost use Rattle.rebar.specs.declared.cage.Cage.{Cage};
+ghost use Rattle.books.specs.Answers.{AtEverySpacing};
 
 use rebar::beam::Beam;
 use rebar::cage::Cage;
@@ -11,6 +12,15 @@ use rebar::cage::Cage;
 pub trait Book {
     ghost answer: { Self → Beam → Cage → ℕ };
 
+    // The answer to a beam and a cage, always the same for the same pair.
     fn check(&self, beam: &Beam, cage: &Cage) -> u8
         ensures answers_its_meaning { result ≡ answer self.now beam.now cage.now };
+
+    // A refusal of the cage that holds at every spacing of its ties, where the book knows of one. No book has to say so: it
+    // spares a search the questions about the other spacings.
+    fn refuses_at_every_spacing(&self, beam: &Beam, cage: &Cage) -> Option<u8>
+        ensures refused_so_at_every_spacing { MatchOption result (Unit {0}) (AtEverySpacing (answer self.now) beam.now cage.now) }
+    {
+        None
+    }
 }

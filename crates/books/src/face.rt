@@ -1,7 +1,7 @@
-ghost use Rattle.std.specs.Prelude.{◌≡◌, ◌/◌, ◌≤◌};
+ghost use Rattle.std.specs.Prelude.{◌≡◌, ◌≤◌};
 ghost use Rattle.rebar.specs.Marks.{face_area};
 ghost use Rattle.books.specs.Rules.{test};
-ghost use Rattle.books.specs.Numbers.{room, row_length, rows_of, second_row_loss, effective_depth, rows_depth, d_of, face_depth, q_of};
+ghost use Rattle.books.specs.Numbers.{room, row_length, rows_of, second_row_loss, effective_depth, rows_depth, d_of, face_depth, q_of, y_of};
 ghost use Rattle.books.specs.Articles.{outer_row_fits, faces_apart};
 
 use rebar::beam::Beam;
@@ -28,7 +28,7 @@ fn row_of(beam: &Beam, bars: &Bars, number: u64) -> u64
 
 // The yield stress of the steel, in hundreds of kg/cm².
 pub(crate) fn yield_stress(beam: &Beam) -> u64
-    ensures is { result ≡ beam.now.materials.steel / 100 }
+    ensures is { result ≡ y_of beam.now.materials }
     ensures small { result ≤ 42 }
 {
     beam.materials.steel as u64 / 100

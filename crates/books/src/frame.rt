@@ -1,5 +1,6 @@
-ghost use Rattle.std.specs.Prelude.{◌≡◌, ◌≢◌, ◌≤◌};
+ghost use Rattle.std.specs.Prelude.{◌≡◌, MatchOption, ◌≢◌, ◌≤◌};
 ghost use Rattle.books.specs.Rules.{test, over, first_broken, PassesExactly, RefusesExactly};
+ghost use Rattle.books.specs.Answers.{AtEverySpacing};
 ghost use Rattle.books.specs.Asked.{answer_of};
 ghost use Rattle.books.specs.Faces.{least_depth, shear_of_moments};
 ghost use Rattle.books.specs.Frame.{probable_moment, most_steel, half_below, close_in_frame, relied_on, in_frame_shear, frame, frame_articles_for, frame_answer};
@@ -127,5 +128,13 @@ impl<B: Book> Book for Frame<B> {
             0 if beam.member.in_frame => answer(ask_all(beam, cage)),
             lower => lower,
         }
+    }
+
+    // What the book below refuses so, the layer does.
+    #[tactic(auto, using(crate::proofs::EverySpacing::passed_on))]
+    fn refuses_at_every_spacing(&self, beam: &Beam, cage: &Cage) -> Option<u8>
+        ensures refused_so_at_every_spacing { MatchOption result (Unit {0}) (AtEverySpacing (λ b c. over (B.answer self.now.below b c) (frame_answer b c)) beam.now cage.now) }
+    {
+        self.below.refuses_at_every_spacing(beam, cage)
     }
 }

@@ -1,8 +1,9 @@
-ghost use Rattle.std.specs.Prelude.{◌≡◌};
+ghost use Rattle.std.specs.Prelude.{◌≡◌, ◌≢◌, MatchOption, MatchResult};
 ghost use Rattle.books.specs.Rules.{first_broken, PassesExactly, RefusesExactly};
-ghost use Rattle.books.specs.Articles.{in_shear, general};
+ghost use Rattle.books.specs.Answers.{AtEverySpacing};
+ghost use Rattle.books.specs.Articles.{in_shear, of_bars, general};
 ghost use Rattle.books.specs.Asked.{answer_of};
-ghost use Rattle.books.specs.Faces.{least_depth};
+ghost use Rattle.books.specs.Faces.{least_depth, AreOf};
 ghost use Rattle.books.specs.General.{articles_for, general_answer};
 
 use crate::article::{Broken, answer, ask};
@@ -32,9 +33,9 @@ fn ask_in_shear(faces: &Faces) -> Result<(), Broken>
     ask(13, strengths.is_close_enough(ties, faces.depth()))
 }
 
-// Asks all articles of the book.
-fn ask_all(beam: &Beam, cage: &Cage) -> Result<(), Broken>
-    ensures { answer_of result ≡ first_broken (general beam.now.section beam.now.materials beam.now.member beam.now.actions cage.now) }
+// Asks the articles 1 to 9, and gives the faces where they hold.
+fn ask_of_bars<'a>(beam: &'a Beam, cage: &'a Cage) -> Result<Faces<'a>, Broken>
+    ensures { MatchResult result (λ faces. (first_broken (of_bars beam.now.section beam.now.materials beam.now.actions cage.now) ≡ 0) × AreOf beam.now cage.now faces) (λ broken. (first_broken (of_bars beam.now.section beam.now.materials beam.now.actions cage.now) ≡ broken.article) × (broken.article ≢ 0)) }
 {
     let ties = &cage.ties;
     let bottom = Face::of(beam, ties, &cage.bottom);
@@ -48,12 +49,20 @@ fn ask_all(beam: &Beam, cage: &Cage) -> Result<(), Broken>
     ask(7, top.bears_moment(beam.actions.top))?;
     ask(8, bottom.has_least_steel_under(beam.actions.bottom))?;
     ask(9, top.has_least_steel_under(beam.actions.top))?;
-    let faces = Faces {
+    Ok(Faces {
         beam,
         ties,
         bottom,
         top,
-    };
+    })
+}
+
+// Asks all articles of the book.
+#[tactic(auto, using(crate::proofs::EverySpacing::bars_refuse, crate::proofs::EverySpacing::shear_answers))]
+fn ask_all(beam: &Beam, cage: &Cage) -> Result<(), Broken>
+    ensures { answer_of result ≡ first_broken (general beam.now.section beam.now.materials beam.now.member beam.now.actions cage.now) }
+{
+    let faces = ask_of_bars(beam, cage)?;
     ask_in_shear(&faces)
 }
 
@@ -66,5 +75,15 @@ impl Book for General {
         ensures refusal_names_the_first_broken_article { RefusesExactly (articles_for beam.now cage.now) result }
     {
         answer(ask_all(beam, cage))
+    }
+
+    // The articles 1 to 9 ask nothing of the spacing.
+    fn refuses_at_every_spacing(&self, beam: &Beam, cage: &Cage) -> Option<u8>
+        ensures refused_so_at_every_spacing { MatchOption result (Unit {0}) (AtEverySpacing general_answer beam.now cage.now) }
+    {
+        match ask_of_bars(beam, cage) {
+            Ok(_) => None,
+            Err(broken) => Some(broken.article),
+        }
     }
 }

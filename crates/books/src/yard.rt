@@ -1,5 +1,6 @@
-ghost use Rattle.std.specs.Prelude.{◌≡◌, ◌≢◌};
+ghost use Rattle.std.specs.Prelude.{◌≡◌, MatchOption, ◌≢◌};
 ghost use Rattle.books.specs.Rules.{test, over, first_broken, PassesExactly, RefusesExactly};
+ghost use Rattle.books.specs.Answers.{AtEverySpacing};
 ghost use Rattle.books.specs.Asked.{answer_of};
 ghost use Rattle.books.specs.Yard.{few_bars, wide_spacing, one_mark, yard_articles, yard_answer};
 
@@ -64,5 +65,13 @@ impl<B: Book> Book for Yard<B> {
             0 => answer(self.ask_all(cage)),
             lower => lower,
         }
+    }
+
+    // What the book below refuses so, the layer does.
+    #[tactic(auto, using(crate::proofs::EverySpacing::passed_on))]
+    fn refuses_at_every_spacing(&self, beam: &Beam, cage: &Cage) -> Option<u8>
+        ensures refused_so_at_every_spacing { MatchOption result (Unit {0}) (AtEverySpacing (λ b c. over (B.answer self.now.below b c) (yard_answer self.now.most_bars self.now.least_spacing self.now.one_mark c)) beam.now cage.now) }
+    {
+        self.below.refuses_at_every_spacing(beam, cage)
     }
 }

@@ -2,7 +2,7 @@
 use Rattle.std.proofs.Common.{◌≡◌, ℕ, zero, suc, ◌+◌, ◌-◌, ◌*◌, ◌<◌, ◌≤◌, true, false, cond, get_or, take, refl, ap, ◌∙◌, add-zero, add-one, arith}
 use Rattle.std.proofs.lemmas.List.{get_or-take}
 use Rattle.rebar.proofs.Table.{below}
-use Rattle.card.specs.Layout.{size, sizes}
+use Rattle.card.specs.Layout.{field_count, size, sizes}
 use Rattle.card.specs.Map.{stands, offset, Begins}
 
 pub offset_none : (map : ℕ) → offset map 0 ≡ 0
@@ -59,8 +59,8 @@ offset_within map k n h s =
     omega arith
 
 -- a field that stands begins where the fields below its bit end
-pub begins : (map bit k bytes at : ℕ) → k ≡ bit → k < 13 → at ≡ offset map k → stands map bit ≡ true → size bit ≡ bytes → Begins map bit bytes at
+pub begins : (map bit k bytes at : ℕ) → k ≡ bit → k < field_count → at ≡ offset map k → stands map bit ≡ true → size bit ≡ bytes → Begins map bit bytes at
 begins map bit k bytes at is known a s z =
     let e : at ≡ offset map bit = a ∙ ap (offset map) is in
-    let w = offset_within map bit 13 (omega arith) s in
+    let w = offset_within map bit field_count (omega arith) s in
     record { present = s; place = e; whole = omega arith }

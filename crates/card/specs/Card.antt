@@ -4,7 +4,7 @@ use Rattle.rebar.specs.declared.beam.Beam.{Beam}
 use Rattle.card.specs.declared.fault.Fault.{Fault}
 use Rattle.card.specs.declared.fault.FaultKind.TheVariants.{BytesMissing, UnknownBit, RequiredBitAbsent, BytesOver}
 use Rattle.card.specs.Faults.{fault, first, Answers}
-use Rattle.card.specs.Layout.{least_cover}
+use Rattle.card.specs.Layout.{map_bytes, least_cover}
 use Rattle.card.specs.Map.{unknown, required, asked_bytes}
 use Rattle.card.specs.Parts.{values_fault, SectionIs, MaterialsIs, MemberIs, LoadsIs}
 
@@ -14,7 +14,7 @@ map_of card = slice_index card 0 * 256 + slice_index card 1
 
 -- the bytes after the map
 abbrev pub rest_of : List ℕ → List ℕ
-rest_of card = drop 2 card
+rest_of card = drop map_bytes card
 
 -- the fault of a map, or of the length of a card with this map, in the order in which they are judged
 unfoldable pub map_fault : ℕ → ℕ → Option Fault
@@ -31,7 +31,7 @@ Shaped map bytes = (required map ≡ true) × (bytes ≡ asked_bytes map)
 
 -- the fault of a card's map or length
 abbrev pub shape_fault : List ℕ → Option Fault
-shape_fault card = cond (nat_lt (length card) 2) (Some (fault BytesMissing (length card))) (map_fault (map_of card) (length card))
+shape_fault card = cond (nat_lt (length card) map_bytes) (Some (fault BytesMissing (length card))) (map_fault (map_of card) (length card))
 
 -- the first fault of a card where covers below `least` are refused: no number is judged before map and length are
 abbrev pub fault_by_cover : ℕ → List ℕ → Option Fault

@@ -1,5 +1,6 @@
 -- Faults of a card, and what it is to answer with one.
 use Rattle.std.specs.Prelude.{◌≡◌, ℕ, ◌+◌, Bool, cond, Some, None, Ok, Err, Option, Result}
+use Rattle.card.specs.Layout.{map_bytes}
 use Rattle.card.specs.declared.fault.Fault.{Fault}
 use Rattle.card.specs.declared.fault.FaultKind.{FaultKind}
 use Rattle.card.specs.declared.fault.FaultKind.TheVariants.{BytesMissing, UnknownBit, RequiredBitAbsent, BytesOver, OutOfRange}
@@ -18,7 +19,7 @@ fault kind place = record { kind = kind; place = place }
 
 -- the fault of a number that begins `at` bytes after the map, none where the number is in range
 abbrev pub range_fault : Bool → ℕ → Option Fault
-range_fault fine at = cond fine None (Some (fault OutOfRange (2 + at)))
+range_fault fine at = cond fine None (Some (fault OutOfRange (map_bytes + at)))
 
 -- the first of two faults
 abbrev pub first : Option Fault → Option Fault → Option Fault

@@ -7,6 +7,18 @@ use Rattle.card.specs.declared.layout.Field.TheVariants.{Width, Height, Cover, C
 use Rattle.card.specs.declared.layout.LoadCase.{LoadCase}
 use Rattle.card.specs.declared.layout.LoadCase.TheVariants.{Dead, Live, Wind, Earthquake}
 
+-- how many bytes the map takes, at the beginning of a card
+abbrev pub map_bytes : ℕ
+map_bytes = 2
+
+-- how many bytes a moment or a shear takes
+abbrev pub effect_bytes : ℕ
+effect_bytes = 4
+
+-- how many numbers a load case has: a moment and a shear at three stations
+abbrev pub case_numbers : ℕ
+case_numbers = 6
+
 -- a field of one number
 pub record Row : Type 0 where
   -- its bit in the map
@@ -34,14 +46,18 @@ layout Frame = row 6 1 0 (λ least n. within (range 0 1) n)
 layout Span = row 7 2 0 (λ least n. within spans n)
 layout ShearFactor = row 8 1 75 (λ least n. is_shear_factor n)
 
--- the bit of a load case, which takes 24 bytes and means no load where it is absent
+-- the bit of a load case, which means no load where it is absent
 abbrev pub load_bit : LoadCase → ℕ
 load_bit Dead = 9
 load_bit Live = 10
 load_bit Wind = 11
 load_bit Earthquake = 12
 
--- how many bytes each of the thirteen fields takes, by its bit
+-- how many fields there are, one for each bit from 0 on
+abbrev pub field_count : ℕ
+field_count = 13
+
+-- how many bytes each field takes, by its bit
 abbrev pub sizes : List ℕ
 sizes =
     map (λ f. (layout f).bytes) (Width ∷ Height ∷ Cover ∷ Concrete ∷ Steel ∷ Aggregate ∷ Frame ∷ Span ∷ ShearFactor ∷ [])

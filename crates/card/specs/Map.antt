@@ -2,7 +2,7 @@
 use Rattle.std.specs.Prelude.{◌≡◌, ℕ, zero, suc, ◌+◌, ◌/◌, ◌%◌, ◌^◌, ◌≤◌, Bool, true, cond, ◌&&◌, List, [], ◌∷◌, ◌==◌, nat_le}
 use Rattle.card.specs.declared.layout.Field.TheVariants.{Width, Height, Concrete, Span}
 use Rattle.card.specs.declared.layout.LoadCase.TheVariants.{Dead}
-use Rattle.card.specs.Layout.{layout, load_bit, size}
+use Rattle.card.specs.Layout.{map_bytes, field_count, layout, load_bit, size}
 
 -- whether a bit of the map is set; bit 0 is the lowest
 unfoldable pub stands : ℕ → ℕ → Bool
@@ -13,13 +13,13 @@ unfoldable pub offset : ℕ → ℕ → ℕ
 offset map zero = 0
 offset map (suc k) = offset map k + cond (stands map k) (size k) 0
 
--- how many bytes a card with this map has: the two of the map, and those of the fields that stand
+-- how many bytes a card with this map has: those of the map, and those of the fields that stand
 abbrev pub asked_bytes : ℕ → ℕ
-asked_bytes map = 2 + offset map 13
+asked_bytes map = map_bytes + offset map field_count
 
--- whether a bit above 12 is set
+-- whether a bit is set that no field has
 abbrev pub unknown : ℕ → Bool
-unknown map = nat_le (2 ^ 13) map
+unknown map = nat_le (2 ^ field_count) map
 
 -- the bits of the fields that may not be absent: 0, 1, 3, 7 and 9
 abbrev pub required_bits : List ℕ
@@ -38,4 +38,4 @@ required map = all_stand map required_bits
 pub record Begins (map bit bytes at : ℕ) : Type 0 where
   pub present : stands map bit ≡ true
   pub place : at ≡ offset map bit
-  pub whole : at + bytes ≤ offset map 13
+  pub whole : at + bytes ≤ offset map field_count

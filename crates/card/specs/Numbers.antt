@@ -7,7 +7,7 @@ use Rattle.loads.specs.Effects.{moderate}
 use Rattle.card.specs.declared.fault.Fault.{Fault}
 use Rattle.card.specs.declared.layout.Field.{Field}
 use Rattle.card.specs.Faults.{range_fault}
-use Rattle.card.specs.Layout.{layout}
+use Rattle.card.specs.Layout.{effect_bytes, layout}
 use Rattle.card.specs.Map.{stands, offset}
 
 -- a number of one or two bytes
@@ -18,6 +18,14 @@ unsigned_at rest at bytes = cond (bytes == 1) (slice_index rest at) (slice_index
 abbrev pub signed_at : List ℕ → ℕ → ℤ
 signed_at rest at =
     to_z w32 (slice_index rest at * 16777216 + slice_index rest (at + 1) * 65536 + slice_index rest (at + 2) * 256 + slice_index rest (at + 3))
+
+-- where moment and shear at midspan begin, in a load case that begins at a place
+abbrev pub mid_place : ℕ → ℕ
+mid_place at = at + 2 * effect_bytes
+
+-- where those at the right face begin
+abbrev pub right_place : ℕ → ℕ
+right_place at = at + 4 * effect_bytes
 
 -- the number of a field that begins at a place
 abbrev pub number_at : Field → List ℕ → ℕ → ℕ

@@ -11,9 +11,9 @@ use Rattle.card.specs.declared.layout.LoadCase.{LoadCase}
 use Rattle.card.specs.declared.layout.LoadCase.TheVariants.{Dead, Live, Wind, Earthquake}
 use Rattle.card.specs.Card.{shape_fault, map_of, rest_of}
 use Rattle.card.specs.Faults.{fault}
-use Rattle.card.specs.Layout.{layout, load_bit, least_cover}
+use Rattle.card.specs.Layout.{map_bytes, effect_bytes, layout, load_bit, least_cover}
 use Rattle.card.specs.Map.{stands, offset}
-use Rattle.card.specs.Numbers.{number_at, signed_at}
+use Rattle.card.specs.Numbers.{number_at, signed_at, mid_place, right_place}
 
 -- a number that stands on the card: its first byte, and whether it is in range
 pub record Number : Type 0 where
@@ -25,22 +25,22 @@ unfoldable pub of_field : Field → ℕ → ℕ → List ℕ → List Number
 of_field f least map rest =
     cond (stands map (layout f).bit)
     (record {
-      place = 2 + offset map (layout f).bit;
+      place = map_bytes + offset map (layout f).bit;
       fine = (layout f).allowed least (number_at f rest (offset map (layout f).bit));
     } ∷ [])
     []
 
 -- a moment or a shear that begins at a place of the rest
 abbrev pub load_at : List ℕ → ℕ → Number
-load_at rest at = record { place = 2 + at; fine = moderate (signed_at rest at) }
+load_at rest at = record { place = map_bytes + at; fine = moderate (signed_at rest at) }
 
 -- a moment and a shear
 abbrev pub force_at : List ℕ → ℕ → List Number
-force_at rest at = load_at rest at ∷ load_at rest (at + 4) ∷ []
+force_at rest at = load_at rest at ∷ load_at rest (at + effect_bytes) ∷ []
 
 -- those of left face, midspan and right face
 abbrev pub forces_at : List ℕ → ℕ → List Number
-forces_at rest at = force_at rest at ++ (force_at rest (at + 8) ++ force_at rest (at + 16))
+forces_at rest at = force_at rest at ++ (force_at rest (mid_place at) ++ force_at rest (right_place at))
 
 -- the six numbers of a load case, none where the case is absent
 unfoldable pub of_case : LoadCase → ℕ → List ℕ → List Number

@@ -12,9 +12,9 @@ use Rattle.card.specs.declared.layout.Field.TheVariants.{Width, Height, Cover, C
 use Rattle.card.specs.declared.layout.LoadCase.{LoadCase}
 use Rattle.card.specs.declared.layout.LoadCase.TheVariants.{Dead, Live, Wind, Earthquake}
 use Rattle.card.specs.Faults.{first}
-use Rattle.card.specs.Layout.{load_bit}
+use Rattle.card.specs.Layout.{effect_bytes, load_bit}
 use Rattle.card.specs.Map.{stands, offset}
-use Rattle.card.specs.Numbers.{value, field_fault, signed_at, load_fault}
+use Rattle.card.specs.Numbers.{mid_place, right_place, value, field_fault, signed_at, load_fault}
 
 -- the first bad number of width, height and cover
 abbrev pub section_fault : ℕ → ℕ → List ℕ → Option Fault
@@ -33,11 +33,11 @@ member_fault least map rest =
 
 -- of the moment and the shear that begin at a place
 abbrev pub force_fault : List ℕ → ℕ → Option Fault
-force_fault rest at = first (load_fault rest at) (load_fault rest (at + 4))
+force_fault rest at = first (load_fault rest at) (load_fault rest (at + effect_bytes))
 
 -- of the forces at left face, midspan and right face that begin at a place
 abbrev pub forces_fault : List ℕ → ℕ → Option Fault
-forces_fault rest at = first (force_fault rest at) (first (force_fault rest (at + 8)) (force_fault rest (at + 16)))
+forces_fault rest at = first (force_fault rest at) (first (force_fault rest (mid_place at)) (force_fault rest (right_place at)))
 
 -- of a load case; an absent one has no fault
 unfoldable pub case_fault : LoadCase → ℕ → List ℕ → Option Fault
@@ -70,11 +70,11 @@ MemberIs map rest m =
 
 -- the moment and the shear that begin at a place
 abbrev pub ForceAt : List ℕ → ℕ → Force → Type 0
-ForceAt rest at f = (f.moment ≡ signed_at rest at) × (f.shear ≡ signed_at rest (at + 4))
+ForceAt rest at f = (f.moment ≡ signed_at rest at) × (f.shear ≡ signed_at rest (at + effect_bytes))
 
 -- the forces at left face, midspan and right face that begin at a place
 abbrev pub ForcesAt : List ℕ → ℕ → Case → Type 0
-ForcesAt rest at c = ForceAt rest at c.left × ForceAt rest (at + 8) c.mid × ForceAt rest (at + 16) c.right
+ForcesAt rest at c = ForceAt rest at c.left × ForceAt rest (mid_place at) c.mid × ForceAt rest (right_place at) c.right
 
 -- a number of a load case, 0 where the case is absent
 unfoldable pub load_number : LoadCase → ℕ → List ℕ → ℕ → ℤ
@@ -82,14 +82,14 @@ load_number case map rest at = cond (stands map (load_bit case)) (signed_at rest
 
 -- a moment and a shear of a load case
 abbrev pub ForceIs : LoadCase → ℕ → List ℕ → ℕ → Force → Type 0
-ForceIs case map rest at f = (f.moment ≡ load_number case map rest at) × (f.shear ≡ load_number case map rest (at + 4))
+ForceIs case map rest at f = (f.moment ≡ load_number case map rest at) × (f.shear ≡ load_number case map rest (at + effect_bytes))
 
 -- what a load case is
 abbrev pub CaseIs : LoadCase → ℕ → List ℕ → Case → Type 0
 CaseIs case map rest c =
     ForceIs case map rest (offset map (load_bit case)) c.left
-    × ForceIs case map rest (offset map (load_bit case) + 8) c.mid
-    × ForceIs case map rest (offset map (load_bit case) + 16) c.right
+    × ForceIs case map rest (mid_place (offset map (load_bit case))) c.mid
+    × ForceIs case map rest (right_place (offset map (load_bit case))) c.right
 
 -- what the loads are
 abbrev pub LoadsIs : ℕ → List ℕ → Loads → Type 0

@@ -7,7 +7,7 @@ use Rattle.card.specs.declared.fault.Fault.{Fault}
 use Rattle.card.specs.declared.layout.Field.{Field}
 use Rattle.card.specs.declared.layout.LoadCase.{LoadCase}
 use Rattle.card.specs.Card.{map_of, rest_of}
-use Rattle.card.specs.Layout.{layout, load_bit, least_cover}
+use Rattle.card.specs.Layout.{map_bytes, effect_bytes, case_numbers, field_count, layout, load_bit, least_cover}
 use Rattle.card.specs.Map.{stands, required_bits, offset, asked_bytes}
 use Rattle.card.specs.Numbers.{number_at, signed_at}
 
@@ -21,14 +21,14 @@ FieldsFine map rest =
 abbrev pub LoadsFine : ℕ → List ℕ → Type 0
 LoadsFine map rest =
     (case : LoadCase) → stands map (load_bit case) ≡ true
-    → (k : ℕ) → k < 6 → Moderate (signed_at rest (offset map (load_bit case) + 4 * k))
+    → (k : ℕ) → k < case_numbers → Moderate (signed_at rest (offset map (load_bit case) + effect_bytes * k))
 
 -- a card that is taken
 pub record WellFormed (card : List ℕ) : Type 0 where
-  -- the two bytes of the map are there
-  pub mapped : 2 ≤ length card
-  -- no bit above 12 is set
-  pub known : (bit : ℕ) → 12 < bit → stands (map_of card) bit ≡ false
+  -- the bytes of the map are there
+  pub mapped : map_bytes ≤ length card
+  -- no bit is set but those of fields
+  pub known : (bit : ℕ) → field_count ≤ bit → stands (map_of card) bit ≡ false
   -- width, height, concrete, span and dead load stand
   pub required : AllByRecursion (λ bit. stands (map_of card) bit ≡ true) required_bits
   -- it is as long as its map asks for

@@ -2,7 +2,7 @@ ghost use Rattle.std.specs.Prelude.{◌≡◌, true, length};
 ghost use Rattle.rebar.specs.Ranges.{Within};
 ghost use Rattle.card.specs.Card.{shape_fault};
 ghost use Rattle.card.specs.Faults.{Answers};
-ghost use Rattle.card.specs.Layout.{least_covers};
+ghost use Rattle.card.specs.Layout.{field_count, least_covers};
 ghost use Rattle.card.specs.Map.{offset, required};
 
 use crate::fault::{Fault, FaultKind};
@@ -17,7 +17,7 @@ pub(crate) struct Body<'a> {
     rest: &'a [u8],
     least_cover: u16,
     ghost complete: { required map.bits ≡ true },
-    ghost whole: { length rest.now ≡ offset map.bits 13 },
+    ghost whole: { length rest.now ≡ offset map.bits field_count },
     ghost covers: { Within least_covers least_cover },
 }
 

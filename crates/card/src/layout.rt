@@ -1,5 +1,5 @@
 ghost use Rattle.std.specs.Prelude.{◌≡◌, ℕ, ◌<◌, ◌⊎◌};
-ghost use Rattle.card.specs.Layout.{layout, load_bit, size, field_size, case_size};
+ghost use Rattle.card.specs.Layout.{field_count, layout, load_bit, size, field_size, case_size};
 
 use rebar::materials::{is_concrete, is_steel};
 use rebar::member::is_shear_factor;
@@ -16,7 +16,7 @@ pub(crate) trait Mapped: Copy {
     // The field's bit in the map.
     fn bit(self) -> usize
         ensures is { result ≡ bit self }
-        ensures known { result < 13 };
+        ensures known { result < field_count };
 
     // The table of sizes says how many bytes the field takes.
     ghost sized: { (field : Self) → size (bit field) ≡ bytes field };

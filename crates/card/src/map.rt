@@ -30,7 +30,7 @@ impl Map {
         self.stands(field.bit())
     }
 
-    // Whether a bit above 12 is set.
+    // Whether a bit is set that no field has.
     fn has_unknown(self) -> bool
         ensures { result ≡ unknown self.bits }
     {

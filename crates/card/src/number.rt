@@ -1,6 +1,6 @@
 ghost use Rattle.std.specs.Prelude.{◌≡◌, ◌+◌, ◌^◌, ◌<◌, ◌≤◌, IsTrue, length};
 ghost use Rattle.card.specs.Faults.{Answers, range_fault};
-ghost use Rattle.card.specs.Layout.{layout};
+ghost use Rattle.card.specs.Layout.{map_bytes, layout};
 ghost use Rattle.card.specs.Reads.{NumberAs};
 
 use crate::fault::{Fault, FaultKind};
@@ -8,7 +8,7 @@ use crate::layout::Field;
 
 // A number of a card where it is in range, else its fault. It begins at a byte of the rest; two bytes of map stand before that.
 pub(crate) fn in_range<T: Drop>(number: T, fine: bool, at: usize) -> Result<T, Fault>
-    requires { 2 + at < 2 ^ 64 }
+    requires { map_bytes + at < 2 ^ 64 }
     ensures { Answers (range_fault fine at) (λ n. (n ≡ number) × IsTrue fine) result }
 {
     if fine {

@@ -1,5 +1,6 @@
 -- What the writing of a bill keeps. A reader of the public contracts needs none of this.
 use Rattle.std.specs.Prelude.{◌≡◌, ℕ, ◌+◌, ◌*◌, ◌<◌, ◌≤◌, List, length, take, Ok, Err, Result}
+use Rattle.sheet.specs.Size.{place_count}
 use Rattle.sheet.specs.declared.reading.Shown.{Shown}
 use Rattle.bill.specs.Whole.{HasLines, bill_text}
 use Rattle.bill.specs.declared.bill.Begun.{Begun}
@@ -7,7 +8,7 @@ use Rattle.bill.specs.declared.bill.Refused.{Refused}
 use Rattle.console.specs.Bills.{lines_below}
 use Rattle.console.specs.declared.failure.Failure.{Failure}
 
--- the length of a page on which every bill of 64 places fits: a head of 6 bytes, lines of 38 at most, and a total of 22
+-- the length of a page on which every bill of a sheet fits: a head of 6 bytes, lines of 38 at most, and a total of 22
 abbrev pub roomy : ℕ
 roomy = 2460
 
@@ -20,15 +21,15 @@ pub record Billed (shown : ℕ → Shown) (n : ℕ) (page : List ℕ) (bill : Be
 
 -- one place more
 unfoldable pub AddsLine : Begun → List ℕ → (ℕ → Shown) → ℕ → Result Begun Refused → List ℕ → Type 0
-AddsLine bill page shown place (Ok bill') page' = place < 64 → Billed shown place page bill → Billed shown (place + 1) page' bill'
-AddsLine bill page shown place (Err e) page' = place < 64 → Billed shown place page bill → ⊥
+AddsLine bill page shown place (Ok bill') page' = place < place_count → Billed shown place page bill → Billed shown (place + 1) page' bill'
+AddsLine bill page shown place (Err e) page' = place < place_count → Billed shown place page bill → ⊥
 
 -- all places
 unfoldable pub AddsLines : Begun → List ℕ → (ℕ → Shown) → Result Begun Refused → List ℕ → Type 0
-AddsLines bill page shown (Ok bill') page' = Billed shown 0 page bill → Billed shown 64 page' bill'
+AddsLines bill page shown (Ok bill') page' = Billed shown 0 page bill → Billed shown place_count page' bill'
 AddsLines bill page shown (Err e) page' = Billed shown 0 page bill → ⊥
 
 -- the whole bill
 unfoldable pub WritesBill : List ℕ → (ℕ → Shown) → Result ℕ Failure → List ℕ → Type 0
-WritesBill page shown (Ok n) page' = length page ≡ roomy → (take n page' ≡ bill_text (lines_below shown 64)) × (n ≤ roomy)
+WritesBill page shown (Ok n) page' = length page ≡ roomy → (take n page' ≡ bill_text (lines_below shown place_count)) × (n ≤ roomy)
 WritesBill page shown (Err e) page' = length page ≡ roomy → ⊥

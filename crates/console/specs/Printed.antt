@@ -5,6 +5,7 @@ use Rattle.rebar.specs.declared.cage.Cage.{Cage}
 use Rattle.search.specs.declared.decision.Choice.{Choice}
 use Rattle.search.specs.declared.decision.Decision.TheVariants as decision
 use Rattle.search.specs.Lightest.{Lightest}
+use Rattle.sheet.specs.Size.{place_count}
 use Rattle.sheet.specs.declared.call.Call.{Call}
 use Rattle.sheet.specs.declared.call.Exchange.{Exchange}
 use Rattle.sheet.specs.declared.reading.Shown.{Shown}
@@ -29,7 +30,7 @@ pub record IsPrinted (pile : Beam → Cage → ℕ) (stream out : List ℕ) : Ty
   pub spelled : Spells stream (map call_of exchanges) stopped
   pub answered : AllAnswered pile (reverse exchanges)
   pub lawful : (p : ℕ) → Lawful pile (calls_of exchanges) p (shown p)
-  pub text : out ≡ lines_text exchanges ++ (stop_text stopped ++ bill_text (lines_below shown 64))
+  pub text : out ≡ lines_text exchanges ++ (stop_text stopped ++ bill_text (lines_below shown place_count))
 
 -- a line shows the lightest cage from stock that the pile passes for the beam at its place, with its own steel, after these calls
 abbrev pub IsLightestAfter : (Beam → Cage → ℕ) → List Call → ℕ × Choice → Type 0
@@ -38,4 +39,4 @@ IsLightestAfter pile calls line = (b : Beam) × (IsBeamAfter calls line.0 b × L
 -- what is printed is so, and every line of its bill shows such a cage after the calls that the stream spells
 pub record ShowsLightest (pile : Beam → Cage → ℕ) (stream out : List ℕ) : Type 0 where
   pub printed : IsPrinted pile stream out
-  pub lightest : All (IsLightestAfter pile (calls_of printed.exchanges)) (lines_below printed.shown 64)
+  pub lightest : All (IsLightestAfter pile (calls_of printed.exchanges)) (lines_below printed.shown place_count)

@@ -1,6 +1,7 @@
 ghost use Rattle.std.specs.Prelude.{◌≡◌, ◌++◌, OnOk, IfErr};
 ghost use Rattle.bill.specs.Whole.{bill_text};
 ghost use Rattle.sheet.specs.Shown.{shown_at};
+ghost use Rattle.sheet.specs.Size.{place_count};
 ghost use Rattle.console.specs.Billing.{AddsLine, AddsLines, WritesBill};
 ghost use Rattle.console.specs.Bills.{lines_below};
 ghost use Rattle.console.specs.declared.failure.Failure.TheVariants.{NoMemory};
@@ -57,7 +58,7 @@ fn write_bill<P: Book>(page: &mut [u8], sheet: &Sheet<P>) -> Result<usize, Failu
 // Adds the bill of the chosen places to what is printed.
 #[tactic(auto, using(crate::proofs::Room::no_refusal))]
 pub(crate) fn append_bill<P: Book>(sheet: &Sheet<P>, out: &mut Vec<u8>) -> Result<(), Failure>
-    ensures bill { OnOk result (out.new.items ≡ out.old.items ++ bill_text (lines_below (shown_at sheet.now) 64)) }
+    ensures bill { OnOk result (out.new.items ≡ out.old.items ++ bill_text (lines_below (shown_at sheet.now) place_count)) }
     ensures only_want_of_memory { IfErr result (λ failure. failure ≡ NoMemory) }
 {
     let mut page = [0; PAGE];

@@ -12,9 +12,10 @@ use std::fmt;
 #[derive(Clone, Copy, Debug, PartialEq, Eq)]
 pub enum Failure {
     NoMemory,
-    Bill(Refusal),
+    Bill(Refusal), // why a step of the bill was refused
 }
 
+// What is said of a failure.
 impl fmt::Display for Failure {
     ghost output = { λ failure. Some (failure_text failure) };
 
@@ -28,6 +29,7 @@ impl fmt::Display for Failure {
 
 impl Error for Failure {}
 
+// The system gave no memory.
 impl From<AllocError> for Failure {
     ghost from_gives = { λ _ failure. failure ≡ NoMemory };
 
@@ -36,6 +38,7 @@ impl From<AllocError> for Failure {
     }
 }
 
+// A step of the bill was refused.
 impl From<Refusal> for Failure {
     ghost from_gives = { λ refusal failure. failure ≡ Bill refusal };
 

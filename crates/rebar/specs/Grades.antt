@@ -19,9 +19,13 @@ concrete_grades = 180 ∷ 210 ∷ 240 ∷ 280 ∷ 350 ∷ 420 ∷ []
 unfoldable pub is_concrete : ℕ → Bool
 is_concrete = one_of concrete_grades
 
--- the grades of steel, kg/cm²
+-- the lower grade of steel, kg/cm²
+abbrev pub lower_steel : ℕ
+lower_steel = 2800
+
+-- the grades of steel
 abbrev pub steel_grades : List ℕ
-steel_grades = 2800 ∷ 4200 ∷ []
+steel_grades = lower_steel ∷ 4200 ∷ []
 
 -- whether there is steel of a grade
 unfoldable pub is_steel : ℕ → Bool
@@ -47,11 +51,11 @@ roots = 13416 ∷ 14491 ∷ 15491 ∷ 16733 ∷ 18708 ∷ 20493 ∷ []
 abbrev pub block_factors : List ℕ
 block_factors = 85 ∷ 85 ∷ 85 ∷ 85 ∷ 80 ∷ 75 ∷ []
 
--- ρ of each with steel 2800 (R-033, Table 7)
+-- ρ of each with the lower grade of steel (R-033, Table 7)
 abbrev pub least_ratios_2800 : List ℕ
 least_ratios_2800 = 29 ∷ 31 ∷ 33 ∷ 36 ∷ 40 ∷ 44 ∷ []
 
--- ρ of each with steel 4200
+-- ρ of each with the other
 abbrev pub least_ratios_4200 : List ℕ
 least_ratios_4200 = 19 ∷ 21 ∷ 22 ∷ 24 ∷ 27 ∷ 29 ∷ []
 
@@ -69,4 +73,4 @@ block_factor_of f = slice_index block_factors (grade_place f)
 
 -- ρ, the least ratio of tension steel, in ten-thousandths
 unfoldable pub least_ratio_of : ℕ → ℕ → ℕ
-least_ratio_of f fy = slice_index (cond (fy == 2800) least_ratios_2800 least_ratios_4200) (grade_place f)
+least_ratio_of f fy = slice_index (cond (fy == lower_steel) least_ratios_2800 least_ratios_4200) (grade_place f)

@@ -1,5 +1,5 @@
 -- The numbers that the sizes of beams and cages may have.
-use Rattle.std.specs.Prelude.{ℕ, ◌-◌, ◌≤◌, Bool, ◌&&◌, List, length, nat_le, slice_index}
+use Rattle.std.specs.Prelude.{ℕ, ◌+◌, ◌-◌, ◌/◌, ◌≤◌, Bool, ◌&&◌, List, length, nat_le, slice_index}
 
 -- the numbers from a least to a greatest one, both included
 pub record Range : Type 0 where
@@ -17,6 +17,10 @@ Within r n = (r.least ≤ n) × (n ≤ r.most)
 -- whether it does
 abbrev pub within : Range → ℕ → Bool
 within r n = nat_le r.least n && nat_le n r.most
+
+-- how many numbers lie in a range
+abbrev pub count : Range → ℕ
+count r = r.most - r.least + 1
 
 -- from the first to the last of some numbers that rise
 abbrev pub ends : List ℕ → Range
@@ -61,3 +65,7 @@ spacings = range 50 600
 -- how far one spacing is from the next, in mm
 abbrev pub spacing_step : ℕ
 spacing_step = 25
+
+-- how many spacings there are
+abbrev pub spacing_count : ℕ
+spacing_count = (spacings.most - spacings.least) / spacing_step + 1

@@ -27,6 +27,10 @@ bars_steel beam bars = beam.member.span * face_area bars
 unfoldable pub ties_steel : Beam → Ties → ℕ
 ties_steel beam ties = tie_count beam ties * tie_length beam ties * bar_area ties.mark
 
+-- every cage has less steel than this, whatever the beam
+abbrev pub steel_bound : ℕ
+steel_bound = 500000000
+
 -- both faces and the ties
 abbrev pub steel : Beam → Cage → ℕ
 steel beam cage = bars_steel beam cage.bottom + bars_steel beam cage.top + ties_steel beam cage.ties

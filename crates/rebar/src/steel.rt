@@ -1,5 +1,5 @@
 ghost use Rattle.std.specs.Prelude.{◌≡◌, ◌<◌, ◌≤◌};
-ghost use Rattle.rebar.specs.Steel.{hook, tie_length, tie_count, bars_steel, ties_steel, steel};
+ghost use Rattle.rebar.specs.Steel.{hook, tie_length, tie_count, bars_steel, ties_steel, steel, steel_bound};
 
 use crate::beam::Beam;
 use crate::cage::{Bars, Cage, Ties};
@@ -60,7 +60,7 @@ impl Beam {
     // The steel of a whole cage, in mm³.
     pub fn steel(&self, cage: &Cage) -> u32
         ensures steel_of_the_cage { result ≡ steel self.now cage.now }
-        ensures bounded { result < 500000000 }
+        ensures bounded { result < steel_bound }
     {
         self.bars_steel(&cage.bottom) + self.bars_steel(&cage.top) + self.ties_steel(&cage.ties)
     }

@@ -5,20 +5,21 @@ use Rattle.rebar.specs.declared.cage.Bars.{Bars}
 use Rattle.rebar.specs.declared.cage.Ties.{Ties}
 use Rattle.rebar.specs.declared.cage.Cage.{Cage}
 use Rattle.rebar.specs.Order.{numbers, Before}
+use Rattle.rebar.specs.Ranges.{count, main_marks, tie_marks, bar_numbers, spacings, spacing_step, spacing_count}
 use Rattle.rebar.specs.Steel.{steel}
 use Rattle.books.specs.Answers.{Passes}
 use Rattle.stock.specs.declared.kind.Kind.{Kind}
 use Rattle.stock.specs.declared.kind.Kind.TheVariants.{Main, Tie}
-use Rattle.search.specs.declared.band.Band.{Band}
 use Rattle.search.specs.declared.decision.Choice.{Choice}
 use Rattle.search.specs.declared.decision.Decision.{Decision}
 use Rattle.search.specs.declared.decision.Decision.TheVariants.{Chosen, Impossible}
 use Rattle.search.specs.Lightest.{FromStock}
 
--- the mark of these bars, and of these ties, is in, where `got` says which are
+-- the mark of these bars is in, where `got` says which are
 abbrev pub MainIn : (Kind → ℕ → Bool) → Bars → Type 0
 MainIn got bars = T (got Main bars.mark)
 
+-- the same of ties
 abbrev pub TieIn : (Kind → ℕ → Bool) → Ties → Type 0
 TieIn got ties = T (got Tie ties.mark)
 
@@ -46,22 +47,21 @@ abbrev pub StandsAgainst : ℕ → Decision → Type 0
 StandsAgainst floor (Chosen x) = x.steel < floor
 StandsAgainst floor (Impossible n) = ⊥
 
--- the cages from stock whose steel lies in a band
-abbrev pub InBand : (Kind → ℕ → Bool) → Beam → Band → Cage → Type 0
-InBand got beam band d = FromStock got d × (band.from ≤ steel beam d) × (steel beam d < band.to)
-
--- the place of a face's bars, and of ties by mark and then by spacing, in the order of the search
+-- the place of a face's bars in the order of the search, by mark and then by number
 abbrev pub bars_place : Bars → ℕ
-bars_place bars = (bars.mark - 3) * 11 + (bars.number - 2)
+bars_place bars = (bars.mark - main_marks.least) * count bar_numbers + (bars.number - bar_numbers.least)
 
+-- the place of the mark of ties
 abbrev pub mark_place : Ties → ℕ
-mark_place ties = ties.mark - 3
+mark_place ties = ties.mark - tie_marks.least
 
+-- the place of their spacing: the widest first, since wide ties have the least steel
 abbrev pub spacing_place : Ties → ℕ
-spacing_place ties = ties.spacing / 25 - 2
+spacing_place ties = (spacings.most - ties.spacing) / spacing_step
 
+-- the place of ties in the order of the search, by mark and then by spacing
 abbrev pub ties_place : Ties → ℕ
-ties_place ties = mark_place ties * 23 + spacing_place ties
+ties_place ties = mark_place ties * spacing_count + spacing_place ties
 
 -- each of the first n elements stands at its place
 abbrev pub IsByPlace : {X : Type 0} → (X → ℕ) → List X → ℕ → Type 0

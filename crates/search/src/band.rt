@@ -1,26 +1,29 @@
 ghost use Rattle.std.specs.Prelude.{◌≡◌, ◌↔◌, ◌+◌, ◌/◌, ◌<◌, ◌≤◌, IsTrue};
-ghost use Rattle.search.specs.declared.band.TheConstants.{HEAVIEST};
+ghost use Rattle.search.specs.declared.band.TheConstants.{HEAVIEST, NARROWEST};
 
 // No cage has so much steel in any beam, in mm³.
 pub(crate) const HEAVIEST: u32 = 500_000_000;
+
+// How wide the first band is, in mm³; the others are wider.
+pub(crate) const NARROWEST: u32 = 400_000;
 
 // A band of steel in mm³: what is at least `from` and below `to`.
 #[derive(Clone, Copy)]
 pub(crate) struct Band {
     pub(crate) from: u32,
     pub(crate) to: u32,
-    ghost wide: { (from < to) × (400000 ≤ to) },
-    ghost bounded: { to ≤ from + from / 16 + 400000 },
+    ghost wide: { (from < to) × (NARROWEST ≤ to) },
+    ghost bounded: { to ≤ from + from / 16 + NARROWEST },
 }
 
 impl Band {
     // The band below the lightest cage of any beam.
     pub(crate) fn first() -> Band
-        ensures { (result.from ≡ 0) × (result.to ≡ 400000) }
+        ensures { (result.from ≡ 0) × (result.to ≡ NARROWEST) }
     {
         Band {
             from: 0,
-            to: 400_000,
+            to: NARROWEST,
         }
     }
 

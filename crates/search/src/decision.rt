@@ -1,4 +1,5 @@
 ghost use Rattle.std.specs.Prelude.{◌<◌};
+ghost use Rattle.rebar.specs.Steel.{steel_bound};
 
 use rebar::cage::Cage;
 
@@ -7,7 +8,7 @@ use rebar::cage::Cage;
 pub struct Choice {
     pub cage: Cage,
     pub steel: u32,
-    ghost light: { steel < 500000000 },
+    ghost light: { steel < steel_bound },
 }
 
 // What the search finds for a beam: the lightest cage, or where none passes the greatest number that refused one.
@@ -15,5 +16,5 @@ pub struct Choice {
 #[derive(Clone, Copy)]
 pub enum Decision {
     Chosen(Choice),
-    Impossible(u8),
+    Impossible(u8), // the greatest number that refused one
 }

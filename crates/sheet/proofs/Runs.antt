@@ -220,13 +220,13 @@ kept {pile} {t = t} (run_opened n) =
     let at : (q : ℕ) → place_at t q ≡ None = λ q. ap (λ xs. slice_index_or xs q None) n.0 ∙ all_alike None 64 q in
     record {
       places = ap length n.0;
-      mains = ap length n.1;
-      ties = ap length n.2;
+      mains = ap length n.1.0;
+      ties = ap length n.1.1;
       holds = λ q. subst (λ (v : Option Entry). Holds None v) (sym (at q)) tt;
       marks = λ j m. none_in j m;
       stands = λ q. subst (λ (v : Option Entry). AgreesBy (decision_at v) (λ d. ⊥)) (sym (at q)) (λ d s. s);
       right = λ q. subst (λ (v : Option Entry). Right pile (has t.stock) v) (sym (at q)) tt;
-      count = n.3;
+      count = n.2;
     }
   where
     no_mark : (x y : Bool) → y ≡ false → (x && y) ≡ false
@@ -234,8 +234,8 @@ kept {pile} {t = t} (run_opened n) =
     no_mark false y e = refl
 
     none_in : (j : Kind) (m : ℕ) → has t.stock j m ≡ false
-    none_in Main m = no_mark (known Main m) _ (ap (λ xs. slice_index_or xs (m - 3) false) n.1 ∙ all_alike false 9 (m - 3))
-    none_in Tie m = no_mark (known Tie m) _ (ap (λ xs. slice_index_or xs (m - 3) false) n.2 ∙ all_alike false 3 (m - 3))
+    none_in Main m = no_mark (known Main m) _ (ap (λ xs. slice_index_or xs (m - 3) false) n.1.0 ∙ all_alike false 9 (m - 3))
+    none_in Tie m = no_mark (known Tie m) _ (ap (λ xs. slice_index_or xs (m - 3) false) n.1.1 ∙ all_alike false 3 (m - 3))
 kept (made {calls = calls} {t = t} {t' = t'} c o run m) =
     let k = kept run in after _ calls t k c t' o (sym (same_why _ calls t k c) ∙ why_is _ t c o t' m) m
 

@@ -8,7 +8,7 @@ use Rattle.stock.specs.declared.kind.Kind.{Kind}
 use Rattle.stock.specs.declared.kind.Kind.TheVariants.{Main, Tie}
 use Rattle.search.specs.declared.decision.Decision.{Decision}
 use Rattle.stock.specs.Kinds.{kind_number, known}
-use Rattle.stock.specs.Stock.{has, offers_cages}
+use Rattle.stock.specs.Stock.{IsEmpty, has, offers_cages}
 use Rattle.search.specs.Lightest.{Lightest}
 use Rattle.sheet.specs.declared.call.Answer.{Answer}
 use Rattle.sheet.specs.declared.call.Answer.TheVariants as answer
@@ -18,19 +18,15 @@ use Rattle.sheet.specs.declared.reading.Reading.{Reading}
 use Rattle.sheet.specs.declared.refusal.Refusal.{Refusal}
 use Rattle.sheet.specs.declared.refusal.Refusal.TheVariants.{NoSuchPlace, PlaceTaken, PlaceEmpty, Card, NoSuchMark, NothingInStock}
 use Rattle.sheet.specs.declared.table.Table.{Table}
+use Rattle.sheet.specs.Size.{last_place, place_count}
 use Rattle.sheet.specs.Places.{beam_of, opened, shown_of}
 use Rattle.sheet.specs.Table.{place_at, with_place, restocked, settled}
-
--- places are numbered from 0 to this
-abbrev pub last_place : ℕ
-last_place = 63
 
 -- a new sheet: every place empty, no mark in stock, nothing counted
 abbrev pub New : Table → Type 0
 New t =
-    (t.places ≡ replicate (last_place + 1) None)
-    × (t.stock.main ≡ replicate 9 false)
-    × (t.stock.tie ≡ replicate 3 false)
+    (t.places ≡ replicate place_count None)
+    × IsEmpty t.stock
     × (t.count ≡ 0)
 
 -- a card's fault as a refusal
@@ -96,11 +92,12 @@ abbrev pub refusal : {A : Type 0} → Result A Refusal → Option Refusal
 refusal (Ok x) = None
 refusal (Err e) = Some e
 
--- the answer to a call that only changes the sheet, to one that reads, and to one that counts
+-- the answer to a call that only changes the sheet
 abbrev pub done : Result Unit Refusal → Result Answer Refusal
 done (Ok x) = Ok answer.Done
 done (Err e) = Err e
 
+-- the answer to a call that reads a place
 abbrev pub shows : Result Reading Refusal → Result Answer Refusal
 shows (Ok reading) = Ok (answer.Shows reading)
 shows (Err e) = Err e

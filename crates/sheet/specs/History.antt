@@ -4,7 +4,7 @@ use Rattle.std.specs.Bool.{beq}
 use Rattle.std.specs.List.{list_any}
 use Rattle.rebar.specs.declared.beam.Beam.{Beam}
 use Rattle.rebar.specs.declared.cage.Cage.{Cage}
-use Rattle.rebar.specs.Ranges.{main_marks}
+use Rattle.rebar.specs.Ranges.{count, main_marks}
 use Rattle.card.specs.Card.{CardAs}
 use Rattle.stock.specs.declared.kind.Kind.{Kind}
 use Rattle.stock.specs.declared.kind.Kind.TheVariants.{Main, Tie}
@@ -31,7 +31,7 @@ from k (suc n) = k ∷ from (suc k) n
 
 -- the marks that bars may have
 abbrev pub marks : List ℕ
-marks = from main_marks.least (main_marks.most - main_marks.least + 1)
+marks = from main_marks.least (count main_marks)
 
 -- whether some main mark and some tie mark is in
 abbrev pub stocked_after : List Call → Bool

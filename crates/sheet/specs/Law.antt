@@ -15,7 +15,7 @@ use Rattle.sheet.specs.declared.call.Exchange.{Exchange}
 use Rattle.sheet.specs.declared.reading.Shown.{Shown}
 use Rattle.sheet.specs.declared.reading.Shown.TheVariants.{Empty, Open, Chosen, Impossible}
 use Rattle.sheet.specs.declared.refusal.Refusal.{Refusal}
-use Rattle.sheet.specs.Table.{greatest_count}
+use Rattle.sheet.specs.Size.{greatest_count}
 use Rattle.sheet.specs.History.{card_after, IsBeamAfter, in_after, Stands, designs_after, why_after}
 
 -- a decision stands, and is right for the beam there and the marks that are in stock now

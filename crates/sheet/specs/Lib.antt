@@ -1,4 +1,5 @@
 pub mod Refusals
+pub mod Size
 pub mod Places
 pub mod Table
 pub mod Calls

@@ -4,6 +4,7 @@ use Rattle.card.specs.Faults.{fault_number}
 use Rattle.sheet.specs.declared.refusal.Refusal.{Refusal}
 use Rattle.sheet.specs.declared.refusal.Refusal.TheVariants.{NoSuchPlace, PlaceTaken, PlaceEmpty, Card, NoSuchMark, NothingInStock}
 
+-- the number under which a refusal is reported; a card's fault has its own
 abbrev pub refusal_number : Refusal → ℕ
 refusal_number NoSuchPlace = 1
 refusal_number PlaceTaken = 2

@@ -8,7 +8,7 @@ use Rattle.sheet.specs.declared.call.Call.{Call}
 use Rattle.sheet.specs.declared.reading.Reading.{Reading}
 use Rattle.sheet.specs.declared.refusal.Refusal.{Refusal}
 use Rattle.sheet.specs.declared.table.Table.{Table}
-use Rattle.sheet.specs.Table.{greatest_count}
+use Rattle.sheet.specs.Size.{greatest_count}
 use Rattle.sheet.specs.Calls.{New, Makes}
 use Rattle.sheet.specs.History.{why_after, designs_after}
 use Rattle.sheet.specs.Law.{Lawful, Answers}

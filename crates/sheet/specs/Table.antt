@@ -7,6 +7,7 @@ use Rattle.search.specs.declared.decision.Decision.{Decision}
 use Rattle.stock.specs.Stock.{has, with_mark}
 use Rattle.sheet.specs.declared.entry.Entry.{Entry}
 use Rattle.sheet.specs.declared.table.Table.{Table}
+use Rattle.sheet.specs.Size.{greatest_count}
 use Rattle.sheet.specs.Places.{decided, place_reopened}
 
 -- what a place holds
@@ -22,10 +23,6 @@ abbrev pub restocked : Kind → ℕ → Bool → Table → Table
 restocked kind mark is-in t =
     cond (beq (has t.stock kind mark) is-in) t
     (record { places = map (place_reopened kind mark is-in) t.places; stock = with_mark t.stock kind mark is-in; count = t.count })
-
--- the greatest number of a count
-abbrev pub greatest_count : ℕ
-greatest_count = 4294967295
 
 -- a decision put at the place of its beam, and counted; the count stays at its greatest number
 abbrev pub settled : ℕ → Beam → Decision → Table → Table

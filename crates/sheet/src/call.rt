@@ -18,8 +18,8 @@ pub enum Call<'a> {
 #[derive(Clone, Copy)]
 pub enum Answer {
     Done,
-    Shows(Reading),
-    Designs(u32),
+    Shows(Reading), // to a read, and to a design order what its place then shows
+    Designs(u32), // to a count
 }
 
 // A call with what it was answered, nothing before it is made.

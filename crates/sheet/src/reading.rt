@@ -1,4 +1,5 @@
-ghost use Rattle.std.specs.Prelude.{◌<◌};
+ghost use Rattle.std.specs.Prelude.{◌≤◌};
+ghost use Rattle.sheet.specs.Size.{last_place};
 
 use search::decision::Choice;
 
@@ -10,7 +11,7 @@ pub enum Shown {
     Empty,
     Open,
     Chosen(Choice),
-    Impossible(u8),
+    Impossible(u8), // the greatest number that refused a cage
 }
 
 // What is read of a place of the sheet.
@@ -18,5 +19,5 @@ pub enum Shown {
 pub struct Reading {
     pub place: u8,
     pub shown: Shown,
-    ghost placed: { place < 64 },
+    ghost placed: { place ≤ last_place },
 }

@@ -11,10 +11,11 @@ pub enum Refusal {
     PlaceTaken,
     PlaceEmpty,
     Card(Fault),
-    NoSuchMark,
-    NothingInStock,
+    NoSuchMark, // the yard knows no such kind or mark
+    NothingInStock, // no main mark or no tie mark is in
 }
 
+// The refusal of a call whose card has a fault.
 impl From<Fault> for Refusal {
     ghost from_gives = { λ fault refusal. refusal ≡ Card fault };
 

@@ -5,6 +5,7 @@ use Rattle.stock.specs.declared.kind.Kind.{Kind}
 use Rattle.stock.specs.declared.kind.Kind.TheVariants.{Main, Tie}
 use Rattle.stock.specs.declared.kind.UnknownKind.{UnknownKind}
 
+-- the number by which an order names a kind
 abbrev pub kind_number : Kind → ℕ
 kind_number Main = 0
 kind_number Tie = 1

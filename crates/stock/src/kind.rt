@@ -27,6 +27,7 @@ impl Kind {
 #[derive(Clone, Copy, Debug, PartialEq, Eq)]
 pub struct UnknownKind(pub u8);
 
+// The kind with a number, where there is one.
 impl TryFrom<u8> for Kind {
     type Error = UnknownKind;
 
@@ -43,6 +44,7 @@ impl TryFrom<u8> for Kind {
     }
 }
 
+// What is said of such a number.
 impl fmt::Display for UnknownKind {
     ghost output = { λ e. Some (codes "no kind of bar mark has the number " ++ decimal e.0) };
 

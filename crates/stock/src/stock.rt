@@ -1,6 +1,6 @@
-ghost use Rattle.std.specs.Prelude.{◌≡◌, false, replicate};
+ghost use Rattle.std.specs.Prelude.{◌≡◌};
 ghost use Rattle.stock.specs.declared.kind.Kind.TheVariants.{Main, Tie};
-ghost use Rattle.stock.specs.Stock.{row, has, with_mark, offers_cages};
+ghost use Rattle.stock.specs.Stock.{IsEmpty, row, has, with_mark, offers_cages};
 
 use crate::kind::Kind;
 use crate::stock_mark::StockMark;
@@ -16,7 +16,7 @@ pub struct Stock {
 impl Stock {
     // No mark is in.
     pub fn empty() -> Stock
-        ensures no_mark_is_in { (result.main ≡ replicate 9 false) × (result.tie ≡ replicate 3 false) }
+        ensures no_mark_is_in { IsEmpty result }
     {
         Stock {
             main: [false; 9],

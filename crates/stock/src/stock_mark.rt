@@ -1,4 +1,5 @@
 ghost use Rattle.std.specs.Prelude.{◌≡◌, ◌-◌, true, MatchOption, ◌≢◌};
+ghost use Rattle.rebar.specs.Ranges.{main_marks};
 ghost use Rattle.stock.specs.declared.kind.Kind.{Kind};
 ghost use Rattle.stock.specs.Kinds.{kind_number, known};
 
@@ -27,7 +28,7 @@ impl StockMark {
 
     // The place of the mark in the row of its kind.
     pub(crate) fn place(&self) -> usize
-        ensures { result ≡ self.now.mark - 3 }
+        ensures { result ≡ self.now.mark - main_marks.least }
     {
         (self.mark - 3) as usize
     }

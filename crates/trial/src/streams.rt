@@ -2,6 +2,7 @@ use crate::reference::CARD;
 use books::frame::Frame;
 use books::general::General;
 use console::console::answer_orders;
+use std::alloc::AllocError;
 use std::process::Abort;
 use std::test::Fail;
 
@@ -76,5 +77,34 @@ fn worked_designs(rt: HostRuntime) -> Result<(), Fail> {
         &rt,
         b"S\x00\x0b\x01S\x01\x03\x01",
         b"S 11 OK\nS 3 OK\nE 7 OK\nD 7 NONE 4\nCAGES\nTOTAL 0 0\n",
+    )
+}
+
+// An order that puts a beam at place 8: 300 by this height, with the dead load of the reference beam alone.
+fn put_at_8(stream: &mut Vec<u8>, letter: u8, height: u16) -> Result<(), AllocError> {
+    stream.extend_from_slice(&[letter, 8, 34])?;
+    stream.extend_from_slice(b"\x02\x8b\x01\x2c")?;
+    stream.extend_from_slice(&height.to_be_bytes())?;
+    stream.extend_from_slice(b"\x00\xd2\x13\x88")?;
+    stream.extend_from_slice(&CARD[10..34])
+}
+
+// The ten orders that README.md writes byte by byte.
+#[test]
+fn ten_orders(rt: HostRuntime) -> Result<(), Fail> {
+    let mut stream = Vec::new(rt.alloc());
+    stream.extend_from_slice(b"S\x00\x05\x01S\x01\x03\x01E\x07\x3a")?;
+    stream.extend_from_slice(&CARD)?;
+    stream.extend_from_slice(b"D\x07")?;
+    put_at_8(&mut stream, b'E', 249)?;
+    put_at_8(&mut stream, b'E', 250)?;
+    stream.extend_from_slice(b"D\x08")?;
+    put_at_8(&mut stream, b'K', 450)?;
+    stream.extend_from_slice(b"D\x08X\x07")?;
+    answers(
+        &rt,
+        stream.as_slice(),
+        b"S 5 OK\nS 3 OK\nE 7 OK\nD 7 CAGE\nE 8 REFUSED 8 4\nE 8 OK\nD 8 NONE 6\nK 8 OK\nD 8 CAGE\nX 7 OK\n\
+          CAGES\n08 B 2#5 T 2#5 S #3@175 6718470\nTOTAL 1 6718470\n",
     )
 }

@@ -1,11 +1,12 @@
 -- The reference beam: 300 by 500 mm, cover 40, concrete 210, steel 4200, span 5,000, dead and live load.
-use Rattle.std.specs.Prelude.{◌≡◌, ℕ, Bool, true, T, nat_le, refl, ℤ, pos, negsuc}
+use Rattle.std.specs.Prelude.{◌≡◌, ℕ, Bool, true, T, nat_le, refl, ℤ, pos, negsuc, neg_ℤ}
 use Rattle.std.proofs.Common.{lit≤}
 use lib.Signed.{le_z, le_z_yes}
 use Rattle.loads.specs.declared.loads.Force.{Force}
 use Rattle.loads.specs.declared.loads.Case.{Case}
 use Rattle.loads.specs.declared.loads.Loads.{Loads}
 use Rattle.loads.specs.declared.actions.Actions.{Actions}
+use Rattle.loads.specs.Effects.{greatest_effect}
 use Rattle.loads.specs.Combinations.{rows}
 use Rattle.loads.specs.Actions.{ActionsOf}
 use Rattle.rebar.specs.Grades.{is_concrete, is_steel, is_shear_factor}
@@ -18,11 +19,12 @@ use Rattle.rebar.specs.declared.beam.Beam.{Beam}
 abbrev pub reference_section : Section
 reference_section = record { width = 300; height = 500; cover = 40; wide = (lit≤ tt, lit≤ tt); high = (lit≤ tt, lit≤ tt); covered = (lit≤ tt, lit≤ tt) }
 
--- there is concrete of grade 210, steel of grade 4200 and a shear factor 75
+-- there is concrete of grade 210
 pub graded_210 : is_concrete 210 ≡ true
 unfolding is_concrete
 graded_210 = refl
 
+-- there is steel of grade 4200
 pub rolled_4200 : is_steel 4200 ≡ true
 unfolding is_steel
 rolled_4200 = refl
@@ -41,6 +43,7 @@ reference_materials =
       coarse = (lit≤ tt, lit≤ tt);
     }
 
+-- there is a shear factor 75
 pub listed_75 : is_shear_factor 75 ≡ true
 unfolding is_shear_factor
 listed_75 = refl
@@ -51,10 +54,10 @@ reference_member in_frame =
     record { in_frame = in_frame; span = 5000; shear_factor = 75; spans = (lit≤ tt, lit≤ tt); reduces = (lit≤ tt, lit≤ tt); listed = listed_75 }
 
 -- a moment and a shear
-abbrev pub force : (m v : ℤ) → T (le_z (negsuc 99999) m) → T (le_z m (pos 100000)) → T (le_z (negsuc 99999) v) → T (le_z v (pos 100000)) → Force
+abbrev pub force : (m v : ℤ) → T (le_z (neg_ℤ (pos greatest_effect)) m) → T (le_z m (pos greatest_effect)) → T (le_z (neg_ℤ (pos greatest_effect)) v) → T (le_z v (pos greatest_effect)) → Force
 force m v a b c d = record { moment = m; shear = v; bends = (le_z_yes a, le_z_yes b); cuts = (le_z_yes c, le_z_yes d) }
 
--- the two cases that act: a moment and a shear at each station
+-- the dead load: a moment and a shear at each station
 abbrev pub dead : Case
 dead =
     record {
@@ -63,6 +66,7 @@ dead =
       right = force (negsuc 3999) (negsuc 4999) tt tt tt tt;
     }
 
+-- the live load
 abbrev pub live : Case
 live =
     record {

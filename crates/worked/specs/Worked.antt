@@ -7,6 +7,7 @@ use Rattle.rebar.specs.declared.beam.Beam.{Beam}
 use Rattle.rebar.specs.declared.cage.Bars.{Bars}
 use Rattle.rebar.specs.declared.cage.Ties.{Ties}
 use Rattle.rebar.specs.declared.cage.Cage.{Cage}
+use Rattle.rebar.specs.Ranges.{count, main_marks, tie_marks, bar_numbers, spacings, spacing_step}
 use Rattle.rebar.specs.Steel.{steel}
 use Rattle.books.specs.Rules.{first_broken, over}
 use Rattle.books.specs.Articles.{general}
@@ -23,20 +24,22 @@ use Rattle.search.specs.Lightest.{Lightest}
 use Rattle.worked.specs.Reference.{reference_section, reference_materials, reference_member, reference_loads, actions_with, reference_actions, reference_beam}
 
 -- so many bars of a mark
-abbrev pub bars : (n mark : ℕ) → T (nat_le 2 n) → T (nat_le n 12) → T (nat_le 3 mark) → T (nat_le mark 11) → Bars
+abbrev pub bars : (n mark : ℕ) → T (nat_le bar_numbers.least n) → T (nat_le n bar_numbers.most) → T (nat_le main_marks.least mark) → T (nat_le mark main_marks.most) → Bars
 bars n mark a b c d = record { mark = mark; number = n; marked = (lit≤ c, lit≤ d); counted = (lit≤ a, lit≤ b) }
 
 -- #3 ties at a spacing
-abbrev pub ties_at : (s : ℕ) → T (nat_le 50 s) → T (nat_le s 600) → s % 25 ≡ 0 → Ties
+abbrev pub ties_at : (s : ℕ) → T (nat_le spacings.least s) → T (nat_le s spacings.most) → s % spacing_step ≡ 0 → Ties
 ties_at s a b c = record { mark = 3; spacing = s; marked = (lit≤ tt, lit≤ tt); spaced = ((lit≤ a, lit≤ b), c) }
 
--- the faces of the examples: so many #5 bars
+-- the faces of the examples: two #5 bars
 abbrev pub two : Bars
 two = bars 2 5 tt tt tt tt
 
+-- three of them
 abbrev pub three : Bars
 three = bars 3 5 tt tt tt tt
 
+-- four of them
 abbrev pub four : Bars
 four = bars 4 5 tt tt tt tt
 
@@ -84,7 +87,7 @@ EveryTold (e ∷ es) = (told e ≡ e.answer) × EveryTold es
 
 -- main mark 11 and tie mark 3 alone
 abbrev pub main_11_tie_3 : Stock
-main_11_tie_3 = with_mark (with_mark (record { main = replicate 9 false; tie = replicate 3 false }) Main 11 true) Tie 3 true
+main_11_tie_3 = with_mark (with_mark (record { main = replicate (count main_marks) false; tie = replicate (count tie_marks) false }) Main 11 true) Tie 3 true
 
 -- the actions of the loads, the answers, the steel of two cages, and that main mark 11 makes the beam impossible with 4
 -- on the frame layer over the general book
