@@ -1,5 +1,5 @@
 -- One turn of each loop of the search, and its end.
-use Rattle.std.proofs.Common.{◌≡◌, ℕ, ◌+◌, ◌<◌, Bool, inl, inr, arith}
+use Rattle.std.proofs.Common.{◌≡◌, ℕ, ◌+◌, ◌<◌, Bool, refl, inl, inr, arith}
 use native.Mathlib.Decide.{dec_lt}
 use Rattle.rebar.specs.declared.beam.Beam.{Beam}
 use Rattle.rebar.specs.declared.cage.Cage.{Cage}
@@ -7,7 +7,7 @@ use Rattle.stock.specs.declared.kind.Kind.{Kind}
 use Rattle.search.specs.declared.decision.Decision.{Decision}
 use Rattle.search.specs.declared.decision.Decision.TheVariants.{Chosen, Impossible}
 use Rattle.search.specs.Lightest.{FromStock, Lightest}
-use Rattle.search.specs.Search.{Covers, Sound, Step, Done}
+use Rattle.search.specs.Search.{Covers, Step, Done}
 
 -- a loop over the cages of which P holds, by the place of their part; at place k that part is t
 module _ {answer : Beam → Cage → ℕ} {got : Kind → ℕ → Bool} {beam : Beam} {X : Type 0}
@@ -26,18 +26,18 @@ module _ {answer : Beam → Cage → ℕ} {got : Kind → ℕ → Bool} {beam : 
         ],
   )
 
--- all places done
-pub settled : (answer : Beam → Cage → ℕ) (got : Kind → ℕ → Bool) (beam : Beam) (r : Decision) → Sound answer got beam r
+-- all places done, with no cage found before
+pub settled : (answer : Beam → Cage → ℕ) (got : Kind → ℕ → Bool) (beam : Beam) (r : Decision) → Step answer got beam (Impossible 0) r
     → Done answer beam (FromStock got) r → Lightest answer got beam r
-settled answer got beam (Chosen x) s done = (
-  s.0,
-  s.1,
-  s.2,
-  λ d f z h. done d f z (rw s.2 h),
+settled answer got beam (Chosen x) s done = let found = s.sound (inl refl) in (
+  found.0,
+  found.1,
+  found.2,
+  λ d f z h. done d f z (rw found.2 h),
 )
 settled answer got beam (Impossible n) s done = (
   done,
-  elim s [
+  elim (s.sound (inl refl)) [
     | inl z ↦ inr (z, λ d f. let h = done d f in h.0 (omega (arith, h.1)))
     | inr x ↦ inl x
   ],

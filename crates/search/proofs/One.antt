@@ -10,7 +10,7 @@ use Rattle.search.specs.declared.decision.Choice.{Choice}
 use Rattle.search.specs.declared.decision.Decision.{Decision}
 use Rattle.search.specs.declared.decision.Decision.TheVariants.{Chosen, Impossible}
 use Rattle.search.specs.Lightest.{Better, FromStock, Lightest}
-use Rattle.search.specs.Search.{Sound, Done}
+use Rattle.search.specs.Search.{Step, Done}
 use Rattle.search.proofs.Loops.{settled}
 use Rattle.rebar.proofs.Same.{same_bars, same_ties, same_cage}
 
@@ -62,6 +62,6 @@ one_decision answer got beam (Impossible n) (Impossible m) p q =
     ap Impossible e
 
 -- all places done, no other decision is right
-pub only_settled : (answer : Beam → Cage → ℕ) (got : Kind → ℕ → Bool) (beam : Beam) (s r : Decision) → Sound answer got beam r
+pub only_settled : (answer : Beam → Cage → ℕ) (got : Kind → ℕ → Bool) (beam : Beam) (s r : Decision) → Step answer got beam (Impossible 0) r
     → Done answer beam (FromStock got) r → Lightest answer got beam s → s ≡ r
-only_settled answer got beam s r sound done right = one_decision answer got beam s r right (settled answer got beam r sound done)
+only_settled answer got beam s r step done right = one_decision answer got beam s r right (settled answer got beam r step done)

@@ -1,5 +1,5 @@
 -- Bars and ties are known by their place in the list of all.
-use Rattle.std.proofs.Common.{◌≡◌, ℕ, ◌+◌, ◌*◌, ◌/◌, ◌<◌, ◌≤◌, List, get_or, take, drop, sym, ap, subst, ◌∙◌, lit≤, refl, arith}
+use Rattle.std.proofs.Common.{◌≡◌, ℕ, ◌+◌, ◌-◌, ◌*◌, ◌/◌, ◌<◌, ◌≤◌, List, get_or, take, drop, sym, ap, subst, ◌∙◌, arith}
 use Rattle.std.proofs.lemmas.List.{get_or-take, get_or-drop}
 use Rattle.std.specs.List.{AllWithin}
 use Rattle.rebar.specs.declared.beam.Beam.{Beam}
@@ -12,7 +12,6 @@ use Rattle.rebar.proofs.Spacings.{lighter_ties}
 use Rattle.search.specs.declared.places.TheConstants.{BARS, MARKS, SPACINGS, TIES}
 use Rattle.search.specs.declared.weighed.WeighedBars.{WeighedBars}
 use Rattle.search.specs.declared.weighed.WeighedTies.{WeighedTies}
-use Rattle.search.specs.declared.weighed.TheConstants.{MOST}
 use Rattle.search.specs.Search.{IsByPlace, bars_place, mark_place, spacing_place, ties_place}
 
 -- all bars and all ties have a place
@@ -29,7 +28,7 @@ same_bars_place a b e = same_bars a b (omega arith) (omega arith)
 pub same_ties_place : (a b : Ties) → ties_place a ≡ ties_place b → a ≡ b
 same_ties_place a b e =
     let m : a.mark ≡ b.mark = omega arith in
-    let q : a.spacing / 25 ≡ b.spacing / 25 = omega arith in
+    let q : (600 - a.spacing) / 25 ≡ (600 - b.spacing) / 25 = omega arith in
     same_ties a b m (omega (arith, a.spaced.1, b.spaced.1))
 
 -- a list of weighed parts by place
@@ -39,49 +38,17 @@ module _ {Part Weighed : Type 0} (part : Weighed → Part) (place : Part → ℕ
   listed : (k : ℕ) (x : Weighed) → k < n → (a : Part) → place a ≡ k → a ≡ part (get_or xs k x)
   listed k x lt a e = same a (part (get_or xs k x)) (e ∙ sym (all k x lt))
 
-  -- what holds of the steel of each of the listed parts holds of the steel of each part
-  of_listed : (steel : Weighed → ℕ) (weight : Part → ℕ) → AllWithin (λ x. steel x ≡ weight (part x)) xs 0 n
-      → (Q : Part → ℕ → Type 0) → AllWithin (λ x. Q (part x) (steel x)) xs 0 n
-      → Weighed → (a : Part) → place a < n → Q a (weight a)
-  of_listed steel weight weighed Q holds x a lt =
-      let e = listed (place a) x lt a refl in
-      subst (λ p. Q p (weight p)) (sym e) (subst (Q (part (get_or xs (place a) x))) (weighed (place a) x (omega arith) lt) (holds (place a) x (omega arith) lt))
-
 module _ (bars : List WeighedBars) (all : IsByPlace (λ b. bars_place b.bars) bars BARS) where
   pub bars_here : (k : ℕ) (t : WeighedBars) → k < BARS → (b : Bars) → bars_place b ≡ k → b ≡ (get_or bars k t).bars
   bars_here = listed (λ b. b.bars) bars_place BARS same_bars_place bars all
-
-  -- no bars of a face have more steel
-  pub bars_below_most : (beam : Beam) → AllWithin (λ b. b.steel ≡ bars_steel beam b.bars) bars 0 BARS
-      → (b : Bars) → bars_steel beam b ≤ MOST
-  bars_below_most beam weighed b =
-      of_listed (λ b. b.bars) bars_place BARS same_bars_place bars all (λ b. b.steel) (bars_steel beam) weighed (λ _ s. s ≤ MOST)
-      (λ k d _ _. (get_or bars k d).bounded) (record { bars = b; steel = 0; bounded = lit≤ tt }) b (bars_place_lt b)
-
-module _ (ties : List WeighedTies) (all : IsByPlace (λ t. ties_place t.ties) ties TIES) where
-  pub ties_here : (k : ℕ) (t : WeighedTies) → k < TIES → (b : Ties) → ties_place b ≡ k → b ≡ (get_or ties k t).ties
-  ties_here = listed (λ t. t.ties) ties_place TIES same_ties_place ties all
-
-  -- what holds of the steel of the listed ties holds of that of all ties
-  pub of_listed_ties : (beam : Beam) → AllWithin (λ t. t.steel ≡ ties_steel beam t.ties) ties 0 TIES
-      → (Q : Ties → ℕ → Type 0) → AllWithin (λ t. Q t.ties t.steel) ties 0 TIES
-      → (t : Ties) → Q t (ties_steel beam t)
-  of_listed_ties beam weighed Q holds t =
-      of_listed (λ t. t.ties) ties_place TIES same_ties_place ties all (λ t. t.steel) (ties_steel beam) weighed Q holds
-      (record { ties = t; steel = 0; bounded = lit≤ tt }) t (ties_place_lt t)
-
-  -- no ties have more steel
-  pub ties_below_most : (beam : Beam) → AllWithin (λ t. t.steel ≡ ties_steel beam t.ties) ties 0 TIES
-      → (t : Ties) → ties_steel beam t ≤ MOST
-  ties_below_most beam weighed = of_listed_ties beam weighed (λ _ s. s ≤ MOST) (λ k d _ _. (get_or ties k d).bounded)
 
 -- ties of a mark
 pub same_mark : (a b : Ties) → mark_place a ≡ mark_place b → a.mark ≡ b.mark
 same_mark a b e = omega arith
 
--- at a later place have no more steel
-pub later_lighter : (beam : Beam) (a b : Ties) → mark_place a ≡ mark_place b → spacing_place a ≤ spacing_place b → ties_steel beam b ≤ ties_steel beam a
-later_lighter beam a b e le = lighter_ties beam a b (same_mark a b e) (omega (arith, a.spaced.1, b.spaced.1))
+-- at a later place have no less steel
+pub later_heavier : (beam : Beam) (a b : Ties) → mark_place a ≡ mark_place b → spacing_place a ≤ spacing_place b → ties_steel beam a ≤ ties_steel beam b
+later_heavier beam a b e le = lighter_ties beam b a (sym (same_mark a b e)) (omega (arith, a.spaced.1, b.spaced.1))
 
 -- an item of a part of a list is an item of the list
 in_part : {X : Type 0} (xs : List X) (a n i : ℕ) (x : X) → i < n → x ≡ get_or (take n (drop a xs)) i x → x ≡ get_or xs (a + i) x

@@ -47,6 +47,10 @@ abbrev pub StandsAgainst : ℕ → Decision → Type 0
 StandsAgainst floor (Chosen x) = x.steel < floor
 StandsAgainst floor (Impossible n) = ⊥
 
+-- a cage has the bars of another, and ties of its mark
+abbrev pub IsLike : Cage → Cage → Type 0
+IsLike cage d = (d.bottom ≡ cage.bottom) × (d.top ≡ cage.top) × (d.ties.mark ≡ cage.ties.mark)
+
 -- the place of a face's bars in the order of the search, by mark and then by number
 abbrev pub bars_place : Bars → ℕ
 bars_place bars = (bars.mark - main_marks.least) * count bar_numbers + (bars.number - bar_numbers.least)

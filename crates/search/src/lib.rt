@@ -1,7 +1,6 @@
 // The search for the lightest cage from stock that an article book passes.
 #![tactic(auto)]
 
-mod band; // a band of steel
 pub mod decision; // a chosen cage with its steel, or the number of an impossible beam
 pub mod lightest; // the lightest cage from stock that passes
 mod places; // all bars of a face and all ties, in the order of the search

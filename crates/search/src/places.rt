@@ -32,7 +32,7 @@ fn bars_at(beam: &Beam, k: usize) -> WeighedBars
     WeighedBars { bars, steel }
 }
 
-// The ties at a place, by mark and then by spacing, with their steel in a beam.
+// The ties at a place, by mark and then from the widest spacing down, with their steel in a beam.
 fn ties_at(beam: &Beam, k: usize) -> WeighedTies
     requires { k < TIES }
     ensures at_place { ties_place result.ties ≡ k }
@@ -40,7 +40,7 @@ fn ties_at(beam: &Beam, k: usize) -> WeighedTies
 {
     let ties = Ties {
         mark: 3 + (k / SPACINGS) as u8,
-        spacing: 50 + 25 * (k % SPACINGS) as u16,
+        spacing: 600 - 25 * (k % SPACINGS) as u16,
     };
     let steel = beam.ties_steel(&ties);
     WeighedTies { ties, steel }

@@ -2,11 +2,13 @@ ghost use Rattle.std.specs.Prelude.{◌≡◌, ◌↔◌, IsTrue};
 ghost use Rattle.rebar.specs.Steel.{steel};
 ghost use Rattle.stock.specs.Stock.{has};
 ghost use Rattle.search.specs.Lightest.{FromStock};
-ghost use Rattle.search.specs.Search.{Lighter, Covers, Step, StandsAgainst};
+ghost use Rattle.books.specs.Answers.{AtEverySpacing};
+ghost use Rattle.search.specs.Search.{Lighter, Covers, Step, Done, StandsAgainst, IsLike};
 
 use crate::decision::{Choice, Decision};
 use crate::searching::Search;
 use books::book::Book;
+use rebar::cage::Cage;
 
 impl Choice {
     // Whether the cage has less steel than another, or as much and is the smaller.
@@ -54,6 +56,20 @@ impl<P: Book> Search<'_, P> {
                     Decision::Impossible(greatest.max(answer))
                 }
             }
+        }
+    }
+
+    // The decision with the cages of the same bars and ties of the same mark as one that the pile refuses at every spacing.
+    #[tactic(auto, using(crate::proofs::Steps::refused_so, crate::proofs::Steps::none_like, crate::proofs::Steps::none_better))]
+    pub(crate) fn weigh_refused(&self, cage: &Cage, answer: u8, best: Decision) -> Decision
+        requires from_stock { FromStock (has self.now.stock.now) cage.now }
+        requires refused { AtEverySpacing (P.answer self.now.pile.now) self.now.beam.now cage.now answer }
+        ensures step { Step (P.answer self.now.pile.now) (has self.now.stock.now) self.now.beam.now best result }
+        ensures done { Done (P.answer self.now.pile.now) self.now.beam.now (IsLike cage.now) result }
+    {
+        match best {
+            Decision::Chosen(_) => best,
+            Decision::Impossible(greatest) => Decision::Impossible(greatest.max(answer)),
         }
     }
 }

@@ -9,5 +9,5 @@ returns-clause-done g c =
     λ d p.
     let asked = c.args.self.now in
     let cage : Cage = record { bottom = c.args.bottom.now.bars; top = c.args.top.now.bars; ties = c.args.ties.now.ties } in
-    subst (λ x. Covers (g.P.Book.answer asked.pile.now) asked.beam.now c.weigh.result x) (sym (same_cage d cage p.1 p.2 p.3))
+    subst (λ x. Covers (g.P.Book.answer asked.pile.now) asked.beam.now c.weigh.result x) (sym (same_cage d cage p.0 p.1 p.2))
     c.weigh.ensures.covers

@@ -1,10 +1,11 @@
 use Rattle.std.proofs.Common.{◌≡◌, ◌<◌}
 use Rattle.stock.specs.Stock.{has}
-use Rattle.search.specs.Search.{Step, Done, InBand, bars_place}
+use Rattle.search.specs.Lightest.{FromStock}
+use Rattle.search.specs.Search.{Step, Done, bars_place}
 use Rattle.search.proofs.searching.Search.weigh_tops.Given as goal
 
 abbrev pub invariant-loop-top : goal.invariant-loop-top
 invariant-loop-top g l =
     Step (g.P.Book.answer l.self.pile.now) (has l.self.stock.now) l.self.beam.now l.initial.found l.found
     × Done (g.P.Book.answer l.self.pile.now) l.self.beam.now
-    (λ d. (InBand (has l.self.stock.now) l.self.beam.now l.band d × (d.bottom ≡ l.bottom.bars)) × (bars_place d.top < l.top-index)) l.found
+    (λ d. (FromStock (has l.self.stock.now) d × (d.bottom ≡ l.bottom.bars)) × (bars_place d.top < l.top-index)) l.found
