@@ -186,21 +186,30 @@ fn cages(x: &Beam, main: &[usize], tie: &[usize]) -> Vec<(u64, String, u8)> {
     all
 }
 
-// The questions of a search that goes through bands of steel, each a sixteenth wider than what lies below it; within a band it
-// goes by the numbers, and asks of what would be better than the best so far.
+// The questions of a search that goes over all cages once, by their numbers but for the spacings, of which the widest comes first:
+// one question about the ties of a mark, unless all of these cages are heavier than the best so far; and where the articles 1 to 9
+// hold, which look at no spacing, one about each cage that would be better than the best.
 fn questions(all: &[(u64, String, u8)]) -> u64 {
-    let (mut from, mut to, mut asked) = (0, 400_000, 0);
-    let mut best: Option<u64> = None;
-    while from < 500_000_000 && best.is_none() {
-        for (steel, _, answer) in all {
-            if from <= *steel && *steel < to && best.map_or(true, |best| *steel < best) {
+    let mut asked = 0;
+    let mut best = (u64::MAX, 0);
+    for (place, ties) in all.chunks(23).enumerate() {
+        let (lightest, answer) = (ties[22].0, ties[22].2);
+        if best.0 < lightest {
+            continue;
+        }
+        asked += 1;
+        if (1..=9).contains(&answer) {
+            continue;
+        }
+        for (k, (steel, _, answer)) in ties.iter().enumerate().rev() {
+            let cage = (*steel, 23 * place + k);
+            if cage < best {
                 asked += 1;
                 if *answer == 0 {
-                    best = Some(*steel);
+                    best = cage;
                 }
             }
         }
-        (from, to) = (to, to + to / 16);
     }
     asked
 }

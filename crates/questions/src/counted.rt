@@ -10,11 +10,23 @@ pub(crate) struct Counted<B> {
     pub(crate) questions: Cell<u64>,
 }
 
+impl<B> Counted<B> {
+    // One question more.
+    fn count(&self) {
+        self.questions.set(self.questions.get().saturating_add(1));
+    }
+}
+
 impl<B: Book> Book for Counted<B> {
     ghost answer = { λ counted beam cage. B.Book.answer counted.below beam cage };
 
     fn check(&self, beam: &Beam, cage: &Cage) -> u8 {
-        self.questions.set(self.questions.get().saturating_add(1));
+        self.count();
         self.below.check(beam, cage)
+    }
+
+    fn refuses_at_every_spacing(&self, beam: &Beam, cage: &Cage) -> Option<u8> {
+        self.count();
+        self.below.refuses_at_every_spacing(beam, cage)
     }
 }
