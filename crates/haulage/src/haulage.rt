@@ -1,4 +1,5 @@
-ghost use Rattle.std.specs.Prelude.{◌≡◌, ◌≢◌, ◌↔◌};
+ghost use Rattle.std.specs.Prelude.{◌≡◌, MatchOption, ◌≢◌, ◌↔◌};
+ghost use Rattle.books.specs.Answers.{AtEverySpacing};
 ghost use Rattle.books.specs.Rules.{over};
 ghost use Rattle.haulage.specs.Haulage.{TooLong, TooHeavy, haulage_answer};
 
@@ -30,5 +31,13 @@ impl<B: Book> Book for Haulage<B> {
             0 if 100_000_000 * (self.lifts as u64) < 785 * (beam.steel(cage) as u64) => 72,
             lower => lower,
         }
+    }
+
+    // What the book below refuses so, the layer does.
+    #[tactic(auto, using(books::proofs::EverySpacing::passed_on))]
+    fn refuses_at_every_spacing(&self, beam: &Beam, cage: &Cage) -> Option<u8>
+        ensures refused_so_at_every_spacing { MatchOption result (Unit {0}) (AtEverySpacing (λ b c. over (B.answer self.now.below b c) (haulage_answer self.now.bed self.now.lifts b c)) beam.now cage.now) }
+    {
+        self.below.refuses_at_every_spacing(beam, cage)
     }
 }

@@ -9,7 +9,7 @@ use std::alloc::{AllocError, Global};
 use std::cell::Cell;
 use std::fmt;
 
-// A decision, how many questions the search put, and the least that it must put.
+// A decision, how many questions the search put, and the least that must be put about one cage at a time.
 #[derive(Clone, Copy)]
 pub(crate) struct Asked {
     decision: Decision,

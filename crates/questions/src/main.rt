@@ -1,4 +1,4 @@
-// Counts the questions that the search puts to a pile, beside the least that any right search must put. Reads a beam on
+// Counts the questions that the search puts to a pile, beside the least that must be put about one cage at a time. Reads a beam on
 // each line of standard input: the main marks in stock, the tie marks and the bytes of its card, all in hexadecimal.
 #![tactic(auto)]
 
