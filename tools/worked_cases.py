@@ -10,11 +10,16 @@ one whose passing side is nearest to the limit. Articles 13 and 26 ask two thing
 
 The limit of 300 mm of article 13 has no pair, since it never decides alone: where vs is at least 2 vc, 40 times a spacing
 above 300 passes 12,000 tenths, and no depth does.
+
+Then every number of the rules is taken one greater and one smaller in turn, and questions are sought whose answers are then
+others, so that the same wrong number in a definition and in the code shows too. The slips that no question tells are printed.
 """
 import pathlib
 import random
+import re
 import sys
 from dataclasses import dataclass, replace
+from itertools import product
 
 ROOT = pathlib.Path(__file__).resolve().parent.parent
 
@@ -364,6 +369,74 @@ def tables(rng, wanted, rounds):
     return {test: best[test][1:] for test in wanted}
 
 
+# slips: the rules with one number changed
+
+ROUNDS = 6_000
+
+
+@dataclass(frozen=True)
+class Slip:
+    words: str  # the line of this file with the number changed
+    rules: dict  # what the rules are then
+
+    def tells(self, question):
+        """What is told of a question, or nothing where there are no numbers for it."""
+        try:
+            return self.rules["framed"](*question), self.rules["steel"](*question)
+        except LookupError:
+            return None
+
+
+def slips():
+    """The rules of this file with each number of the two books and of the steel one greater and one smaller in turn."""
+    text = pathlib.Path(__file__).read_text()
+    first, end, steel_first, steel_end = (text.index(words) for words in ("DIAMETER =", "def yard", "def steel", "# bytes"))
+    rules = text[first:end] + text[steel_first:steel_end]
+    for number in re.finditer(r"(?<![\w.])\d[\d_]*(?![\w.])", rules):
+        for wrong in (int(number[0]) + 1, int(number[0]) - 1):
+            slipped = rules[: number.start()] + str(wrong) + rules[number.end() :]
+            names = {"dataclass": dataclass}
+            try:
+                exec(slipped, names)
+                names["framed"](REFERENCE, WORKED)
+            except (LookupError, TypeError, ValueError):
+                continue  # no rules at all
+            line = slipped.splitlines()[slipped.count("\n", 0, number.start())]
+            yield Slip(f"{line.strip()} ({number[0]})", names)
+
+
+def at_most_steel():
+    """Questions in the frame, with no load, where the greatest steel of article 23 or 24 is just met or just passed."""
+    for mark, n, h, over in product(DIAMETER, range(3, 13), range(250, 901), (0, 1)):
+        beam = Beam(800, h, 40, 280, 2800, 20, 1, 5_000, 75, (NO_LOAD,) * 4)
+        face = Face(beam, mark, n, 3)
+        b, rest = divmod(400 * face.area + over, face.d)
+        narrower = replace(beam, b=min(b, 800))
+        if rest == 0 and 250 <= b <= 800 and Face(narrower, mark, n, 3).d == face.d:
+            yield narrower, Cage(mark, n, mark, n - 1, 3, 50)
+            yield narrower, Cage(mark, n - 1, mark, n, 3, 50)
+
+
+def telling(rng, asked, rounds):
+    """Questions that tell the slips which those asked before do not, and the slips that none of them tells."""
+    left, found = list(slips()), []
+
+    def ask(question):
+        right = framed(*question), steel(*question)
+        rest = [slip for slip in left if slip.tells(question) == right]
+        told = len(rest) < len(left)
+        left[:] = rest
+        return told
+
+    for question in asked:
+        ask(question)
+    for _ in range(rounds):
+        pairs = neighbours(rng, random_beam(rng), random_cage(rng))
+        found += [question for pair in pairs for question in pair or () if ask(question)]
+    found += [question for question in at_most_steel() if ask(question)]
+    return found, left
+
+
 # the worked beam and its figures
 
 DEAD = (-4000, 5000, 3000, 0, -4000, -5000)
@@ -476,12 +549,19 @@ def main():
     assert actions(put_in(-4, 9461)) == (94_574, 96_000, 124_000, 124_000)
     for some, (number, place) in faulty_cards():
         out.fault(some, number, place)
+    asked = [(beam, cage) for beam, cage, _ in worked_questions()]
     # the articles by their first tests; the two that have a second one by that too
     wanted = [*((article, 0) for article in (*range(1, 14), *range(21, 29))), (13, 1), (26, 1)]
-    for (article, _), (passes, refused) in tables(rng, wanted, 40_000).items():
+    for (article, _), pair in tables(rng, wanted, 40_000).items():
+        passes, refused = pair
         assert framed(*refused) == article and framed(*passes) != article
+        asked += pair
         out.ask(*passes)
         out.ask(*refused)
+    found, left = telling(rng, asked, ROUNDS)
+    for question in found:
+        out.ask(*question)
+    print(f"{len(found)} questions tell slips, and these slips are not told:", *(slip.words for slip in left), sep="\n")
     yard_cases(out)
     (ROOT / "crates/trial/stdin").write_bytes(out.bytes)
     (ROOT / "crates/trial/stdout").write_text("".join(line + "\n" for line in out.lines))
