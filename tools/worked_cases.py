@@ -13,7 +13,7 @@ above 300 passes 12,000 tenths, and no depth does.
 
 Then every number of the rules is taken one greater and one smaller in turn, and questions are sought whose answers are then
 others, so that the same wrong number in a definition and in the code shows too. The slips that no question tells are printed.
-Some lines are read in another way too (READINGS), and a question tells each of these readings.
+Some lines are read in another way too (MISREADINGS), and a question tells each of these misreadings.
 """
 import pathlib
 import random
@@ -416,10 +416,10 @@ def slips():
             yield Slip(f"{line.strip()} ({number[0]})", names)
 
 
-def readings():
+def misreadings():
     """The rules read in another way, one line each."""
     rules = rules_text()
-    for right, wrong in READINGS:
+    for right, wrong in MISREADINGS:
         assert rules.count(right) == 1, right
         yield Slip(wrong, rules_of(rules.replace(right, wrong)))
 
@@ -471,7 +471,7 @@ def put_in(dead, earthquake):
 
 
 # other ways to read a line of the rules, and questions that tell each of them
-READINGS = (
+MISREADINGS = (
     ("yield 1, *bottom.outer\n    yield 2, *top.outer", "yield 2, *top.outer\n    yield 1, *bottom.outer"),
     ("one = length(n) <= room", "one = length(n) < room"),
     ("yield 4, 16_000_000 * bottom.q,", "yield 4, 16_000_000 * bottom.q + 1,"),
@@ -630,7 +630,7 @@ def main():
     found, left = telling(rng, asked, ROUNDS)
     for question in (*found, *CLOSE_QUESTIONS):
         out.ask(*question)
-    assert all(map(told_closely, readings()))
+    assert all(map(told_closely, misreadings()))
     untold = [slip.words for slip in left if not told_closely(slip)]
     print(f"{len(found)} questions tell slips, and {len(untold)} slips are not told:", *untold, sep="\n")
     yard_cases(out)
