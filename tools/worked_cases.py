@@ -10,11 +10,17 @@ one whose passing side is nearest to the limit. Articles 13 and 26 ask two thing
 
 The limit of 300 mm of article 13 has no pair, since it never decides alone: where vs is at least 2 vc, 40 times a spacing
 above 300 passes 12,000 tenths, and no depth does.
+
+Then every number of the rules is taken one greater and one smaller in turn, and questions are sought whose answers are then
+others, so that the same wrong number in a definition and in the code shows too. The slips that no question tells are printed.
+Some lines are read in another way too (MISREADINGS), and a question tells each of these misreadings.
 """
 import pathlib
 import random
+import re
 import sys
 from dataclasses import dataclass, replace
+from itertools import product
 
 ROOT = pathlib.Path(__file__).resolve().parent.parent
 
@@ -364,6 +370,92 @@ def tables(rng, wanted, rounds):
     return {test: best[test][1:] for test in wanted}
 
 
+# slips: the rules with one number changed
+
+ROUNDS = 6_000
+
+
+@dataclass(frozen=True)
+class Slip:
+    words: str  # the line of this file with the number changed
+    rules: dict  # what the rules are then
+
+    def tells(self, question):
+        """What is told of a question, or nothing where there are no numbers for it."""
+        try:
+            return self.rules["framed"](*question), self.rules["steel"](*question)
+        except LookupError:
+            return None
+
+
+def rules_text():
+    """The rules of the two books and of the steel as they stand in this file."""
+    text = pathlib.Path(__file__).read_text()
+    first, end, steel_first, steel_end = (text.index(words) for words in ("DIAMETER =", "def yard", "def steel", "# bytes"))
+    return text[first:end] + text[steel_first:steel_end]
+
+
+def rules_of(text):
+    names = {"dataclass": dataclass}
+    exec(text, names)
+    return names
+
+
+def slips():
+    """The rules with each of their numbers one greater and one smaller in turn."""
+    rules = rules_text()
+    for number in re.finditer(r"(?<![\w.])\d[\d_]*(?![\w.])", rules):
+        for wrong in (int(number[0]) + 1, int(number[0]) - 1):
+            slipped = rules[: number.start()] + str(wrong) + rules[number.end() :]
+            try:
+                names = rules_of(slipped)
+                names["framed"](REFERENCE, WORKED)
+            except (LookupError, TypeError, ValueError):
+                continue  # no rules at all
+            line = slipped.splitlines()[slipped.count("\n", 0, number.start())]
+            yield Slip(f"{line.strip()} ({number[0]})", names)
+
+
+def misreadings():
+    """The rules read in another way, one line each."""
+    rules = rules_text()
+    for right, wrong in MISREADINGS:
+        assert rules.count(right) == 1, right
+        yield Slip(wrong, rules_of(rules.replace(right, wrong)))
+
+
+def at_most_steel():
+    """Questions in the frame, with no load, where the greatest steel of article 23 or 24 is just met or just passed."""
+    for mark, n, h, over in product(DIAMETER, range(3, 13), range(250, 901), (0, 1)):
+        beam = Beam(800, h, 40, 280, 2800, 20, 1, 5_000, 75, (NO_LOAD,) * 4)
+        face = Face(beam, mark, n, 3)
+        b, rest = divmod(400 * face.area + over, face.d)
+        narrower = replace(beam, b=min(b, 800))
+        if rest == 0 and 250 <= b <= 800 and Face(narrower, mark, n, 3).d == face.d:
+            yield narrower, Cage(mark, n, mark, n - 1, 3, 50)
+            yield narrower, Cage(mark, n - 1, mark, n, 3, 50)
+
+
+def telling(rng, asked, rounds):
+    """Questions that tell the slips which those asked before do not, and the slips that none of them tells."""
+    left, found = list(slips()), []
+
+    def ask(question):
+        right = framed(*question), steel(*question)
+        rest = [slip for slip in left if slip.tells(question) == right]
+        told = len(rest) < len(left)
+        left[:] = rest
+        return told
+
+    for question in asked:
+        ask(question)
+    for _ in range(rounds):
+        pairs = neighbours(rng, random_beam(rng), random_cage(rng))
+        found += [question for pair in pairs for question in pair or () if ask(question)]
+    found += [question for question in at_most_steel() if ask(question)]
+    return found, left
+
+
 # the worked beam and its figures
 
 DEAD = (-4000, 5000, 3000, 0, -4000, -5000)
@@ -376,6 +468,56 @@ def put_in(dead, earthquake):
     """The reference beam with these moments at midspan in place of its own: nothing else changes in its actions but m."""
     loads = ((-4000, 5000, dead, 0, -4000, -5000), (-3000, 4000, 0, 0, -3000, -4000), NO_LOAD, (0, 0, earthquake, 0, 0, 0))
     return replace(REFERENCE, loads=loads)
+
+
+# other ways to read a line of the rules, and questions that tell each of them
+MISREADINGS = (
+    ("yield 1, *bottom.outer\n    yield 2, *top.outer", "yield 2, *top.outer\n    yield 1, *bottom.outer"),
+    ("one = length(n) <= room", "one = length(n) < room"),
+    ("yield 4, 16_000_000 * bottom.q,", "yield 4, 16_000_000 * bottom.q + 1,"),
+    ("yield 5, 16_000_000 * top.q,", "yield 5, 16_000_000 * top.q + 1,"),
+    ("yield article, rho * b * face.d,", "yield article, rho * b * face.d + 1,"),
+    ("vm = 265 * ROOT_OF[f] * b * z // 100_000_000\n    vs = tie", "vm = up(265 * ROOT_OF[f] * b * z, 100_000_000)\n    vs = tie"),
+    ("yield 12, 7 * b * s,", "yield 12, 7 * b * s + 1,"),
+    ("if vs >= 2 * vc:", "if vs > 2 * vc:"),
+    ("yield 21, rho * b * bottom.d,", "yield 21, rho * b * bottom.d + 1,"),
+    ("yield 22, rho * b * top.d,", "yield 22, rho * b * top.d + 1,"),
+    ("yield 26, 40 * s,", "yield 26, 40 * s + 1,"),
+    ("yield 27, 10 * (g + j),", "yield 27, 10 * (g + j) + 1,"),
+    ("*_, g = actions(beam)", "*_, g, _ = actions(beam)"),
+    ("return up(5 * face.q * bracket, 680 * f * b)", "return 5 * face.q * bracket // (680 * f * b)"),
+    ("j = up(10 * (probable(bottom) + probable(top)), beam.span)", "j = 10 * (probable(bottom) + probable(top)) // beam.span"),
+    ("2 * j > g + j", "2 * j >= g + j"),
+    ("vs = AREA[cage.tie] * (beam.fy // 100) * z // (5 * s)", "vs = up(AREA[cage.tie] * (beam.fy // 100) * z, 5 * s)"),
+)
+
+
+def told_closely(slip):
+    return any(slip.tells(question) != (framed(*question), steel(*question)) for question in CLOSE_QUESTIONS)
+
+
+def cut(dead=0, live=0, earthquake=0):
+    """These shears at the left face, and of the earthquake at midspan."""
+    return (0, dead, 0, 0, 0, 0), (0, live, 0, 0, 0, 0), NO_LOAD, (0, 0, 0, earthquake, 0, 0)
+
+
+PULLED = ((10, 0, 10, 0, 10, 0), NO_LOAD, NO_LOAD, NO_LOAD)
+CLOSE_QUESTIONS = (
+    (Beam(285, 685, 43, 350, 2800, 39, 1, 1614, 60, cut()), Cage(8, 12, 9, 12, 3, 100)),
+    (Beam(369, 568, 57, 240, 4200, 40, 1, 1226, 60, cut(earthquake=44271)), Cage(5, 4, 5, 2, 5, 50)),
+    (Beam(625, 529, 55, 350, 4200, 25, 0, 4476, 75, cut()), Cage(8, 11, 8, 11, 5, 75)),
+    (Beam(625, 741, 26, 350, 4200, 27, 0, 3863, 60, PULLED), Cage(7, 3, 7, 3, 5, 75)),
+    (Beam(314, 614, 23, 350, 2800, 25, 0, 6146, 75, cut(46359)), Cage(5, 3, 5, 7, 3, 50)),
+    (Beam(568, 706, 43, 350, 2800, 24, 0, 11891, 60, cut(7772)), Cage(3, 6, 6, 5, 3, 200)),
+    (Beam(269, 567, 49, 280, 4200, 28, 0, 3065, 75, cut()), Cage(3, 7, 3, 7, 3, 125)),
+    (Beam(625, 741, 26, 350, 4200, 27, 1, 3863, 60, cut()), Cage(7, 3, 7, 3, 5, 75)),
+    (Beam(589, 388, 61, 420, 4200, 29, 1, 1204, 75, cut()), Cage(7, 2, 7, 3, 5, 75)),
+    (Beam(651, 881, 68, 180, 4200, 30, 1, 5136, 75, cut(3, 49468)), Cage(8, 8, 10, 5, 5, 75)),
+    (Beam(660, 872, 37, 240, 2800, 36, 1, 1816, 60, cut(3, 517)), Cage(11, 4, 11, 5, 5, 75)),
+    (Beam(484, 763, 25, 240, 4200, 11, 1, 5430, 60, cut(2, 28107)), Cage(8, 10, 8, 3, 3, 50)),
+    (Beam(692, 633, 36, 420, 2800, 38, 1, 4971, 75, cut(1, 14269)), Cage(6, 12, 6, 9, 3, 100)),
+    (Beam(620, 516, 64, 350, 2800, 34, 1, 11533, 60, cut(1, 15006)), Cage(10, 4, 10, 7, 3, 50)),
+)
 
 
 def worked_questions():
@@ -476,12 +618,21 @@ def main():
     assert actions(put_in(-4, 9461)) == (94_574, 96_000, 124_000, 124_000)
     for some, (number, place) in faulty_cards():
         out.fault(some, number, place)
+    asked = [(beam, cage) for beam, cage, _ in worked_questions()]
     # the articles by their first tests; the two that have a second one by that too
     wanted = [*((article, 0) for article in (*range(1, 14), *range(21, 29))), (13, 1), (26, 1)]
-    for (article, _), (passes, refused) in tables(rng, wanted, 40_000).items():
+    for (article, _), pair in tables(rng, wanted, 40_000).items():
+        passes, refused = pair
         assert framed(*refused) == article and framed(*passes) != article
+        asked += pair
         out.ask(*passes)
         out.ask(*refused)
+    found, left = telling(rng, asked, ROUNDS)
+    for question in (*found, *CLOSE_QUESTIONS):
+        out.ask(*question)
+    assert all(map(told_closely, misreadings()))
+    untold = [slip.words for slip in left if not told_closely(slip)]
+    print(f"{len(found)} questions tell slips, and {len(untold)} slips are not told:", *untold, sep="\n")
     yard_cases(out)
     (ROOT / "crates/trial/stdin").write_bytes(out.bytes)
     (ROOT / "crates/trial/stdout").write_text("".join(line + "\n" for line in out.lines))

@@ -61,15 +61,15 @@ impl<P: Book> Search<'_, P> {
 
     // The decision with the cages of the same bars and ties of the same mark as one that the pile refuses at every spacing.
     #[tactic(auto, using(crate::proofs::Steps::refused_so, crate::proofs::Steps::none_like, crate::proofs::Steps::none_better))]
-    pub(crate) fn weigh_refused(&self, cage: &Cage, answer: u8, best: Decision) -> Decision
+    pub(crate) fn weigh_refused(&self, cage: &Cage, number: u8, best: Decision) -> Decision
         requires from_stock { FromStock (has self.now.stock.now) cage.now }
-        requires refused { AtEverySpacing (P.answer self.now.pile.now) self.now.beam.now cage.now answer }
+        requires refused { AtEverySpacing (P.answer self.now.pile.now) self.now.beam.now cage.now number }
         ensures step { Step (P.answer self.now.pile.now) (has self.now.stock.now) self.now.beam.now best result }
         ensures done { Done (P.answer self.now.pile.now) self.now.beam.now (IsLike cage.now) result }
     {
         match best {
             Decision::Chosen(_) => best,
-            Decision::Impossible(greatest) => Decision::Impossible(greatest.max(answer)),
+            Decision::Impossible(greatest) => Decision::Impossible(greatest.max(number)),
         }
     }
 }

@@ -5,17 +5,17 @@ use Rattle.search.proofs.searching.Search.weigh_refused.Goals as goal
 pub returns-in-Chosen-clause-done : goal.returns-in-Chosen-clause-done
 returns-in-Chosen-clause-done g c =
     let asked = c.args.self.now in
-    let better = none_better (g.P.Book.answer asked.pile.now) (has asked.stock.now) asked.beam.now c.args.best c.args.cage.now c.args.answer c.requires.refused c.in-Chosen.field-0 in
+    let better = none_better (g.P.Book.answer asked.pile.now) (has asked.stock.now) asked.beam.now c.args.best c.args.cage.now c.args.number c.requires.refused c.in-Chosen.field-0 in
     rw c.in-Chosen.is better
 
 pub returns-in-Impossible-clause-step : goal.returns-in-Impossible-clause-step
 returns-in-Impossible-clause-step g c =
     let asked = c.args.self.now in
-    refused_so (g.P.Book.answer asked.pile.now) (has asked.stock.now) asked.beam.now c.args.best c.args.cage.now c.args.answer c.requires.refused
+    refused_so (g.P.Book.answer asked.pile.now) (has asked.stock.now) asked.beam.now c.args.best c.args.cage.now c.args.number c.requires.refused
     c.in-Impossible.greatest c.max.result c.in-Impossible.is c.max.ensures c.requires.from_stock
 
 pub returns-in-Impossible-clause-done : goal.returns-in-Impossible-clause-done
 returns-in-Impossible-clause-done g c =
     let asked = c.args.self.now in
-    none_like (g.P.Book.answer asked.pile.now) (has asked.stock.now) asked.beam.now c.args.best c.args.cage.now c.args.answer c.requires.refused
+    none_like (g.P.Book.answer asked.pile.now) (has asked.stock.now) asked.beam.now c.args.best c.args.cage.now c.args.number c.requires.refused
     c.in-Impossible.greatest c.max.result c.max.ensures
