@@ -26,18 +26,23 @@ class Case:
         return (self.mains, self.ties) == orders.ALL_MARKS
 
     def count(self):
-        """How many designs make a time that can be measured."""
+        """How many designs take long enough to be measured."""
         return max(4, 3_000_000 // ((11 * len(self.mains)) ** 2 * 23 * len(self.ties)))
 
     def is_chosen(self):
         return b"D 0 CAGE\n" in programs.run("cages", self.head + orders.design(0))[0]
 
 
-def drawn_cases(draw, wanted, count):
+def draw_case(chance, most, is_full):
+    marks = orders.ALL_MARKS if is_full else orders.draw_marks(chance, 3, 2)
+    return Case(orders.card(orders.draw_beam(chance, most)), *marks)
+
+
+def draw_cases(chance, count, wanted, most=1.2, is_full=True):
     """The first `count` cases drawn that are chosen, or that are not."""
     some = []
     while len(some) < count:
-        case = draw()
+        case = draw_case(chance, most, is_full)
         if case.is_chosen() == wanted:
             some.append(case)
     return some
@@ -45,13 +50,10 @@ def drawn_cases(draw, wanted, count):
 
 def drawn(chance, beams):
     """Cases drawn at random, by kind."""
-    plain = lambda: Case(orders.card(orders.draw_beam(chance)), *orders.ALL_MARKS)
-    heavy = lambda: Case(orders.card(orders.draw_beam(chance, 4)), *orders.ALL_MARKS)
-    few = lambda: Case(orders.card(orders.draw_beam(chance)), *orders.draw_marks(chance, 3, 2))
     return {
-        "drawn, all marks, chosen": drawn_cases(plain, True, beams),
-        "drawn, up to three main marks and two tie marks, chosen": drawn_cases(few, True, beams // 2),
-        "drawn, all marks, impossible": drawn_cases(heavy, False, beams // 4),
+        "drawn, chosen, all marks": draw_cases(chance, beams, True),
+        "drawn, chosen, one to three main marks and one or two tie marks": draw_cases(chance, beams // 2, True, is_full=False),
+        "drawn, impossible, all marks": draw_cases(chance, beams // 4, False, most=4),
     }
 
 
@@ -65,16 +67,15 @@ def stored():
     text = (programs.ROOT / "crates" / "questions" / "stdin").read_text()
     some = [(case, case.has_all_marks(), case.is_chosen()) for case in map(read_case, text.splitlines())]
     return {
-        "stored, all marks, chosen": [case for case, full, chosen in some if full and chosen],
-        "stored, fewer marks, chosen": [case for case, full, chosen in some if chosen and not full],
-        "stored, all marks, impossible": [case for case, full, chosen in some if full and not chosen],
+        "of crates/questions, chosen, all marks": [case for case, full, chosen in some if full and chosen],
+        "of crates/questions, chosen, fewer marks": [case for case, full, chosen in some if chosen and not full],
+        "of crates/questions, impossible, all marks": [case for case, full, chosen in some if full and not chosen],
     }
 
 
 def questions(groups):
-    """What program `questions` prints last of the drawn beams: the questions to the pile over the least possible."""
+    """The last lines that program `questions` prints of the drawn beams."""
     lines = "".join(case.line() for what, some in groups.items() if what.startswith("drawn") for case in some)
     program = programs.build_proved("questions")
     ran = subprocess.run([program], input=lines.encode(), capture_output=True, check=True)
-    said = ran.stdout.decode().splitlines()[-3:]
-    return "\n".join(f"questions to the pile over the least, drawn beams, {line}" for line in said)
+    return ran.stdout.decode().splitlines()[-3:]

@@ -74,7 +74,10 @@ def any_bytes(chance, _):
     return chance.randbytes(chance.randrange(256))
 
 
-WAYS = (out_of_range, out_of_range, required_field_absent, bit_above_12, too_short, too_long, wrong_map, turned_bit, any_bytes)
+WAYS = (
+    *(out_of_range, out_of_range, required_field_absent, bit_above_12),
+    *(too_short, too_long, wrong_map, turned_bit, any_bytes),
+)
 
 
 def damaged(chance, beam):

@@ -31,21 +31,24 @@ impl Actions {
     pub fn of(loads: &[Load; 4]) -> Actions {
         let mut actions = Actions::default();
         for (place, row) in ROWS.iter().enumerate() {
-            for station in 0..3 {
-                let moment = combined(loads, row, 2 * station);
-                let shear = combined(loads, row, 2 * station + 1).abs();
-                actions.bottom = actions.bottom.max(moment);
-                actions.top = actions.top.max(-moment);
-                actions.shear = actions.shear.max(shear);
-                if place < 2 {
-                    actions.gravity = actions.gravity.max(shear);
-                }
-            }
+            actions.add(&combine(loads, row), place < 2);
         }
         actions
     }
+
+    /// Takes one row's load in, which is of gravity alone or not.
+    fn add(&mut self, row: &Load, is_gravity: bool) {
+        for station in row.chunks(2) {
+            let (moment, shear) = (station[0], station[1].abs());
+            self.bottom = self.bottom.max(moment);
+            self.top = self.top.max(-moment);
+            self.shear = self.shear.max(shear);
+            self.gravity = if is_gravity { self.gravity.max(shear) } else { self.gravity };
+        }
+    }
 }
 
-fn combined(loads: &[Load; 4], row: &[i64; 4], number: usize) -> i64 {
-    loads.iter().zip(row).map(|(load, factor)| factor * load[number]).sum()
+/// The sum of the loads with the factors of a row.
+fn combine(loads: &[Load; 4], row: &[i64; 4]) -> Load {
+    std::array::from_fn(|number| loads.iter().zip(row).map(|(load, factor)| factor * load[number]).sum())
 }

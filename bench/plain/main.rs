@@ -1,7 +1,7 @@
 //! The program `cages` once more, in plain Rust and by brute force: reads a stream of orders from standard input and prints
 //! a line for each, then the bill. Written from docs/RULES.md and docs/FORMATS.md, to be measured and compared with.
 //!
-//! With the argument `lighter` it asks the articles of those cages alone that are lighter than the best so far; without it, of all.
+//! With the argument `lighter` it asks the articles of those cages alone that are lighter than the best so far; else of all.
 
 mod actions; // the actions of the four load cases
 mod articles; // the general book and the frame layer over it
