@@ -95,6 +95,31 @@ def draw_beam(chance, most=1.2):
     return beam | draw_loads(chance, moment, beam["span"])
 
 
+def any_load(chance, moment, shear):
+    """Six numbers up to these, of both signs or of one, some of them 0."""
+    sign = chance.choice((-1, 0, 1))
+    load = [chance.randint(-most, most) * chance.choice((0, 1, 1, 1)) for most in (moment, shear) * 3]
+    return [sign * abs(number) if sign and place % 2 == 0 else number for place, number in enumerate(load)]
+
+
+def any_beam(chance):
+    """A beam with any numbers that a card may have; small loads as often as large ones."""
+    beam = {
+        "width": chance.randint(250, 800),
+        "height": chance.randint(250, 900),
+        "cover": chance.randint(20, 75),
+        "concrete": chance.choice(CONCRETES),
+        "steel": chance.choice(STEELS),
+        "aggregate": chance.randint(10, 40),
+        "frame": chance.randrange(2),
+        "span": chance.randint(1000, 12000),
+        "factor": chance.choice((60, 75)),
+    }
+    moment, shear = (round(10 ** chance.uniform(2, 5)) for _ in range(2))
+    some = [name for name in ("live", "wind", "earthquake") if chance.random() < 0.4]
+    return beam | {name: any_load(chance, moment, shear) for name in ("dead", *some)}
+
+
 def draw_marks(chance, mains, ties):
     """Some main marks and some tie marks, up to so many of each."""
     some = (chance.sample(MARKS[kind], chance.randint(1, most)) for kind, most in ((MAIN, mains), (TIE, ties)))
