@@ -2,7 +2,6 @@
 
 import orders
 
-OPTIONAL = ("cover", "steel", "aggregate", "frame", "factor", "live", "wind", "earthquake")
 REQUIRED = ("width", "height", "concrete", "span", "dead")
 SIZES = dict(orders.FIELDS)
 
