@@ -1,5 +1,5 @@
 //! The program `cages` once more, in plain Rust and by brute force: reads a stream of orders from standard input and prints
-//! a line for each, then the bill. Written from docs/RULES.md and docs/FORMATS.md, to be measured and compared with.
+//! a line for each, then the bill. It follows docs/RULES.md and docs/FORMATS.md, to be measured and compared with.
 //!
 //! With the argument `lighter` it asks the articles of those cages alone that are lighter than the best so far; else of all.
 
