@@ -1,8 +1,9 @@
 -- Refusals that hold at every spacing.
-use Rattle.std.proofs.Common.{◌≡◌, ◌≢◌, ℕ, ◌∙◌, Option, Some, None, MatchOption, refl, sym, ap}
+use Rattle.std.proofs.Common.{◌≡◌, ◌≢◌, ℕ, ◌∙◌, Option, Some, None, MatchOption, refl, sym, ap, arith}
 use Rattle.rebar.specs.declared.section.Section.{Section}
 use Rattle.rebar.specs.declared.materials.Materials.{Materials}
 use Rattle.rebar.specs.declared.member.Member.{Member}
+use Rattle.std.proofs.lemmas.Bool.Decides.{nat_tests}
 use Rattle.loads.specs.declared.actions.Actions.{Actions}
 use Rattle.rebar.specs.declared.beam.Beam.{Beam}
 use Rattle.rebar.specs.declared.cage.Ties.{Ties}
@@ -11,7 +12,7 @@ use Rattle.books.specs.Rules.{over, first_broken}
 use Rattle.books.specs.Answers.{with_ties, AtEverySpacing}
 use Rattle.books.specs.Articles.{of_bars, in_shear, general}
 use Rattle.books.specs.Numbers.{z_of}
-use Rattle.books.specs.General.{articles_for, general_answer}
+use Rattle.books.specs.General.{articles_for, refusal_of_bars, general_answer}
 use Rattle.books.proofs.Reflect.{joined, when_own, when_lower}
 
 -- where the articles of the bars refuse, the general book answers their number
@@ -43,6 +44,15 @@ of_general b c n e ne = (
       let lower : first_broken (of_bars b.section b.materials b.actions (with_ties c t)) ≡ n = ap first_broken (same_articles b c t same) ∙ e in
       sym (bars_refuse b.section b.materials b.member b.actions (with_ties c t) n lower ne),
 )
+
+-- what the general book tells
+pub known_refusal : (b : Beam) (c : Cage) (n : ℕ) → first_broken (of_bars b.section b.materials b.actions c) ≡ n → n ≢ 0 → Some n ≡ refusal_of_bars b c
+unfolding refusal_of_bars
+known_refusal b c n e ne = rw e (grind (arith, nat_tests))
+
+pub known_none : (b : Beam) (c : Cage) → first_broken (of_bars b.section b.materials b.actions c) ≡ 0 → None ≡ refusal_of_bars b c
+unfolding refusal_of_bars
+known_none b c e = rw e refl
 
 -- a layer refuses what the book below it refuses
 pub passed_on : (lower own : Beam → Cage → ℕ) (b : Beam) (c : Cage) (r : Option ℕ)

@@ -1,5 +1,5 @@
 -- Articles as inequalities between numbers, and the first of a list that does not hold.
-use Rattle.std.specs.Prelude.{◌≡◌, ℕ, ◌<◌, ◌≤◌, Bool, cond, ◌&&◌, ◌||◌, ◌≢◌, ◌⊎◌, List, [], ◌∷◌, ◌==◌, nat_le, nat_lt}
+use Rattle.std.specs.Prelude.{◌≡◌, ℕ, ◌<◌, ◌≤◌, Bool, cond, ◌&&◌, ◌||◌, ◌≢◌, ◌⊎◌, List, [], ◌∷◌, Some, None, Option, ◌==◌, nat_le, nat_lt}
 
 infix 4 ◌≼◌ ◌≺◌
 infixr 3 ◌and◌
@@ -38,6 +38,10 @@ article n r = record { number = n; rule = r }
 abbrev pub first_broken : List Article → ℕ
 first_broken [] = 0
 first_broken (a ∷ rest) = cond (test a.rule) (first_broken rest) a.number
+
+-- an answer where it is a refusal
+abbrev pub if_refused : ℕ → Option ℕ
+if_refused n = cond (n == 0) None (Some n)
 
 -- the lower book's answer where that is not 0, else the layer's own
 abbrev pub over : ℕ → ℕ → ℕ

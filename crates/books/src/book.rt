@@ -16,9 +16,9 @@ pub trait Book {
     fn check(&self, beam: &Beam, cage: &Cage) -> u8
         ensures answers_its_meaning { result ≡ answer self.now beam.now cage.now };
 
-    // A refusal of the cage that holds at every spacing of its ties, where the book knows of one. No book has to say so: it
-    // spares a search the questions about the other spacings.
-    fn refuses_at_every_spacing(&self, beam: &Beam, cage: &Cage) -> Option<u8>
+    // A refusal of the cage that holds at every spacing of its ties, where the book tells of one. No book has to: what is told
+    // spares a search the questions about the other spacings, and changes nothing else.
+    fn refusal_at_every_spacing(&self, beam: &Beam, cage: &Cage) -> Option<u8>
         ensures refused_so_at_every_spacing { MatchOption result (Unit {0}) (AtEverySpacing (answer self.now) beam.now cage.now) }
     {
         None

@@ -130,11 +130,11 @@ impl<B: Book> Book for Frame<B> {
         }
     }
 
-    // What the book below refuses so, the layer does.
+    // What the book below refuses at every spacing, the layer does.
     #[tactic(auto, using(crate::proofs::EverySpacing::passed_on))]
-    fn refuses_at_every_spacing(&self, beam: &Beam, cage: &Cage) -> Option<u8>
+    fn refusal_at_every_spacing(&self, beam: &Beam, cage: &Cage) -> Option<u8>
         ensures refused_so_at_every_spacing { MatchOption result (Unit {0}) (AtEverySpacing (λ b c. over (B.answer self.now.below b c) (frame_answer b c)) beam.now cage.now) }
     {
-        self.below.refuses_at_every_spacing(beam, cage)
+        self.below.refusal_at_every_spacing(beam, cage)
     }
 }

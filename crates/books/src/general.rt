@@ -4,7 +4,7 @@ ghost use Rattle.books.specs.Answers.{AtEverySpacing};
 ghost use Rattle.books.specs.Articles.{in_shear, of_bars, general};
 ghost use Rattle.books.specs.Asked.{answer_of};
 ghost use Rattle.books.specs.Faces.{least_depth, AreOf};
-ghost use Rattle.books.specs.General.{articles_for, general_answer};
+ghost use Rattle.books.specs.General.{articles_for, refusal_of_bars, general_answer};
 
 use crate::article::{Broken, answer, ask};
 use crate::book::Book;
@@ -78,7 +78,8 @@ impl Book for General {
     }
 
     // The articles 1 to 9 ask nothing of the spacing.
-    fn refuses_at_every_spacing(&self, beam: &Beam, cage: &Cage) -> Option<u8>
+    fn refusal_at_every_spacing(&self, beam: &Beam, cage: &Cage) -> Option<u8>
+        ensures refusal_of_the_bars { result ≡ refusal_of_bars beam.now cage.now }
         ensures refused_so_at_every_spacing { MatchOption result (Unit {0}) (AtEverySpacing general_answer beam.now cage.now) }
     {
         match ask_of_bars(beam, cage) {

@@ -8,7 +8,7 @@ use Rattle.bill.specs.declared.bill.Refused.{Refused}
 use Rattle.console.specs.Bills.{lines_below}
 use Rattle.console.specs.declared.failure.Failure.{Failure}
 
--- the length of a page on which every bill of a sheet fits: a head of 6 bytes, lines of 38 at most, and a total of 22
+-- the length of a page on which every bill of a sheet fits: a head of 6 bytes, lines of 38 at most, and a total of 22 at most
 abbrev pub roomy : ℕ
 roomy = 2460
 

@@ -12,7 +12,7 @@ use books::book::Book;
 use sheet::reading::Shown;
 use sheet::sheet::Sheet;
 
-// A bill of 64 places fits on a page of this length: a head of 6 bytes, lines of 38 at most, and a total of 22.
+// A bill of 64 places fits on a page of this length: a head of 6 bytes, lines of 38 at most, and a total of 22 at most.
 const PAGE: usize = 2460;
 
 // A line more, where the place is chosen.

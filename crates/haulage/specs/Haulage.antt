@@ -4,16 +4,29 @@ use Rattle.rebar.specs.Steel.{steel}
 use Rattle.rebar.specs.declared.beam.Beam.{Beam}
 use Rattle.rebar.specs.declared.cage.Cage.{Cage}
 
+-- the number where the bars are too long, and where the cage is too heavy
+abbrev pub too_long : ℕ
+too_long = 71
+
+abbrev pub too_heavy : ℕ
+too_heavy = 72
+
+-- what a hoist lifts, and what a cage weighs at 7,850 kg for a cubic metre of steel: both in hundred-millionths of a kg
+abbrev pub lifted : ℕ → ℕ
+lifted kg = 100000000 * kg
+
+abbrev pub weight : Beam → Cage → ℕ
+weight beam cage = 785 * steel beam cage
+
 -- the bars, which run the whole span, are longer than the bed
 abbrev pub TooLong : ℕ → Beam → Type 0
 TooLong bed beam = bed < beam.member.span
 
--- the cage weighs more than the hoist lifts, at 7,850 kg for a cubic metre of steel
+-- the cage weighs more than the hoist lifts
 abbrev pub TooHeavy : ℕ → Beam → Cage → Type 0
-TooHeavy lifts beam cage = 100000000 * lifts < 785 * steel beam cage
+TooHeavy lifts beam cage = lifted lifts < weight beam cage
 
--- what the layer answers of its own: 71 where the bars are too long, else 72 where the cage is too heavy, else 0
+-- what the layer answers of its own, 0 where neither is so
 abbrev pub haulage_answer : ℕ → ℕ → Beam → Cage → ℕ
 haulage_answer bed lifts beam cage =
-    cond (nat_lt bed beam.member.span) 71
-    (cond (nat_lt (100000000 * lifts) (785 * steel beam cage)) 72 0)
+    cond (nat_lt bed beam.member.span) too_long (cond (nat_lt (lifted lifts) (weight beam cage)) too_heavy 0)

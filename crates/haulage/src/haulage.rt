@@ -1,7 +1,7 @@
 ghost use Rattle.std.specs.Prelude.{◌≡◌, MatchOption, ◌≢◌, ◌↔◌};
 ghost use Rattle.books.specs.Answers.{AtEverySpacing};
 ghost use Rattle.books.specs.Rules.{over};
-ghost use Rattle.haulage.specs.Haulage.{TooLong, TooHeavy, haulage_answer};
+ghost use Rattle.haulage.specs.Haulage.{too_long, too_heavy, TooLong, TooHeavy, haulage_answer};
 
 use books::book::Book;
 use rebar::beam::Beam;
@@ -22,8 +22,8 @@ impl<B: Book> Book for Haulage<B> {
     fn check(&self, beam: &Beam, cage: &Cage) -> u8
         ensures answers_its_meaning { result ≡ over (B.answer self.now.below beam.now cage.now) (haulage_answer self.now.bed self.now.lifts beam.now cage.now) }
         ensures lower_answer_comes_first { B.answer self.now.below beam.now cage.now ≢ 0 → result ≡ B.answer self.now.below beam.now cage.now }
-        ensures then_71_exactly_when_too_long { B.answer self.now.below beam.now cage.now ≡ 0 → (result ≡ 71) ↔ TooLong self.now.bed beam.now }
-        ensures then_72_exactly_when_only_too_heavy { B.answer self.now.below beam.now cage.now ≡ 0 → (result ≡ 72) ↔ ((TooLong self.now.bed beam.now → ⊥) × TooHeavy self.now.lifts beam.now cage.now) }
+        ensures then_71_exactly_when_too_long { B.answer self.now.below beam.now cage.now ≡ 0 → (result ≡ too_long) ↔ TooLong self.now.bed beam.now }
+        ensures then_72_exactly_when_only_too_heavy { B.answer self.now.below beam.now cage.now ≡ 0 → (result ≡ too_heavy) ↔ ((TooLong self.now.bed beam.now → ⊥) × TooHeavy self.now.lifts beam.now cage.now) }
         ensures then_passes_exactly_when_neither { B.answer self.now.below beam.now cage.now ≡ 0 → (result ≡ 0) ↔ ((TooLong self.now.bed beam.now → ⊥) × (TooHeavy self.now.lifts beam.now cage.now → ⊥)) }
     {
         match self.below.check(beam, cage) {
@@ -33,11 +33,11 @@ impl<B: Book> Book for Haulage<B> {
         }
     }
 
-    // What the book below refuses so, the layer does.
+    // What the book below refuses at every spacing, the layer does.
     #[tactic(auto, using(books::proofs::EverySpacing::passed_on))]
-    fn refuses_at_every_spacing(&self, beam: &Beam, cage: &Cage) -> Option<u8>
+    fn refusal_at_every_spacing(&self, beam: &Beam, cage: &Cage) -> Option<u8>
         ensures refused_so_at_every_spacing { MatchOption result (Unit {0}) (AtEverySpacing (λ b c. over (B.answer self.now.below b c) (haulage_answer self.now.bed self.now.lifts b c)) beam.now cage.now) }
     {
-        self.below.refuses_at_every_spacing(beam, cage)
+        self.below.refusal_at_every_spacing(beam, cage)
     }
 }

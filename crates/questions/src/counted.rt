@@ -25,8 +25,8 @@ impl<B: Book> Book for Counted<B> {
         self.below.check(beam, cage)
     }
 
-    fn refuses_at_every_spacing(&self, beam: &Beam, cage: &Cage) -> Option<u8> {
+    fn refusal_at_every_spacing(&self, beam: &Beam, cage: &Cage) -> Option<u8> {
         self.count();
-        self.below.refuses_at_every_spacing(beam, cage)
+        self.below.refusal_at_every_spacing(beam, cage)
     }
 }

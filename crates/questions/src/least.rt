@@ -86,8 +86,8 @@ fn before_above(case: &Case, parts: &Parts, chosen: &Choice, bottom: Bars) -> u6
     before
 }
 
-// The least questions that tell that a decision is right, about one cage at a time: of a chosen cage, about it and every cage from stock that comes
-// before it; of none, about every cage from stock.
+// The least questions that tell that a decision is right, about one cage at a time: of a chosen cage, about it and every cage
+// from stock that comes before it; of none, about every cage from stock.
 pub(crate) fn least_questions(
     heap: Global,
     case: &Case,

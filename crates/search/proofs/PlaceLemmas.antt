@@ -9,7 +9,7 @@ use Rattle.rebar.specs.declared.cage.Cage.{Cage}
 use Rattle.rebar.specs.Steel.{bars_steel, ties_steel, steel}
 use Rattle.rebar.proofs.Same.{same_bars, same_ties}
 use Rattle.rebar.proofs.Spacings.{lighter_ties}
-use Rattle.search.specs.declared.places.TheConstants.{BARS, MARKS, SPACINGS, TIES}
+use Rattle.search.specs.declared.places.TheConstants.{BARS, TIE_MARKS, SPACINGS, TIES}
 use Rattle.search.specs.declared.weighed.WeighedBars.{WeighedBars}
 use Rattle.search.specs.declared.weighed.WeighedTies.{WeighedTies}
 use Rattle.search.specs.Search.{IsByPlace, bars_place, mark_place, spacing_place, ties_place}
@@ -42,11 +42,11 @@ module _ (bars : List WeighedBars) (all : IsByPlace (λ b. bars_place b.bars) ba
   pub bars_here : (k : ℕ) (t : WeighedBars) → k < BARS → (b : Bars) → bars_place b ≡ k → b ≡ (get_or bars k t).bars
   bars_here = listed (λ b. b.bars) bars_place BARS same_bars_place bars all
 
--- ties of a mark
+-- ties at the same place of a mark have the same mark
 pub same_mark : (a b : Ties) → mark_place a ≡ mark_place b → a.mark ≡ b.mark
 same_mark a b e = omega arith
 
--- at a later place have no less steel
+-- of one mark those at a later place have no less steel
 pub later_heavier : (beam : Beam) (a b : Ties) → mark_place a ≡ mark_place b → spacing_place a ≤ spacing_place b → ties_steel beam a ≤ ties_steel beam b
 later_heavier beam a b e le = lighter_ties beam b a (sym (same_mark a b e)) (omega (arith, a.spaced.1, b.spaced.1))
 
@@ -57,7 +57,7 @@ in_part xs a n i x lt is = is ∙ get_or-take n (drop a xs) i x lt ∙ get_or-dr
 -- what stands in the list of all ties, in the part of a mark
 module _ (ties : List WeighedTies) (all : IsByPlace (λ t. ties_place t.ties) ties TIES) (beam : Beam)
     (weighed : AllWithin (λ t. t.steel ≡ ties_steel beam t.ties) ties 0 TIES) where
-  pub of_mark : (mark i n : ℕ) (t : WeighedTies) → mark < MARKS → i < SPACINGS → n ≡ SPACINGS
+  pub of_mark : (mark i n : ℕ) (t : WeighedTies) → mark < TIE_MARKS → i < SPACINGS → n ≡ SPACINGS
       → t ≡ get_or (take n (drop (SPACINGS * mark) ties)) i t
       → (mark_place t.ties ≡ mark) × (spacing_place t.ties ≡ i) × (t.steel ≡ ties_steel beam t.ties)
   of_mark mark i n t m lt e is =

@@ -6,4 +6,4 @@ pub mod lightest; // the lightest cage from stock that passes
 mod places; // all bars of a face and all ties, in the order of the search
 mod searching; // what a search asks, and what it knows before its first question
 mod weighed; // bars of a face and ties with their steel in a beam
-mod weighing; // one cage more to a decision
+mod weighing; // a cage more to a decision, or those like one that is refused

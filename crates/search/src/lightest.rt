@@ -1,13 +1,13 @@
 ghost use Rattle.std.specs.Prelude.{◌≡◌, ◌<◌};
 ghost use Rattle.rebar.specs.Steel.{bars_steel, ties_steel};
 ghost use Rattle.stock.specs.Stock.{has};
-ghost use Rattle.search.specs.declared.places.TheConstants.{MARKS};
+ghost use Rattle.search.specs.declared.places.TheConstants.{TIE_MARKS};
 ghost use Rattle.search.specs.declared.decision.Decision.{Decision};
 ghost use Rattle.search.specs.Lightest.{FromStock, Lightest};
 ghost use Rattle.search.specs.Search.{MainIn, TieIn, Step, Done, mark_place};
 
 use crate::decision::{Choice, Decision};
-use crate::places::{MARKS, SPACINGS};
+use crate::places::{SPACINGS, TIE_MARKS};
 use crate::searching::Search;
 use crate::weighed::{WeighedBars, WeighedTies};
 use books::book::Book;
@@ -38,7 +38,8 @@ impl<P: Book> Search<'_, P> {
         self.weigh(Choice { cage, steel }, best)
     }
 
-    // The decision with the cages of one bottom, one top and the ties of one mark, the lightest first. With no question about them
+    // The decision with the cages of one bottom, one top and the ties of one mark, by the place of the mark, the lightest cage
+    // first. With no question about them
     // where the mark is out or the lightest is too heavy, and with one where the pile refuses it at every spacing.
     fn weigh_spacings(
         &self,
@@ -47,7 +48,7 @@ impl<P: Book> Search<'_, P> {
         mark: usize,
         best: Decision,
     ) -> Decision
-        requires marked { mark < MARKS }
+        requires marked { mark < TIE_MARKS }
         requires bars_in { MainIn (has self.now.stock.now) bottom.now.bars × MainIn (has self.now.stock.now) top.now.bars }
         requires weighed { (bottom.now.steel ≡ bars_steel self.now.beam.now bottom.now.bars) × (top.now.steel ≡ bars_steel self.now.beam.now top.now.bars) }
         ensures step { Step (P.answer self.now.pile.now) (has self.now.stock.now) self.now.beam.now best result }
@@ -67,7 +68,7 @@ impl<P: Book> Search<'_, P> {
             top: top.bars,
             ties: widest.ties,
         };
-        if let Some(answer) = self.pile.refuses_at_every_spacing(self.beam, &lightest) {
+        if let Some(answer) = self.pile.refusal_at_every_spacing(self.beam, &lightest) {
             return self.weigh_refused(&lightest, answer, best);
         }
         let mut found = best;
@@ -88,7 +89,7 @@ impl<P: Book> Search<'_, P> {
             return best;
         }
         let mut found = best;
-        for mark in 0..MARKS {
+        for mark in 0..TIE_MARKS {
             found = self.weigh_spacings(bottom, top, mark, found);
         }
         found

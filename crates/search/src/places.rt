@@ -11,12 +11,14 @@ use std::array;
 // How many bars of a face there are: nine marks, each in eleven numbers.
 pub(crate) const BARS: usize = 99;
 
-// How many marks of ties there are, at how many spacings each, and how many ties.
-pub(crate) const MARKS: usize = 3;
+// How many marks of ties there are.
+pub(crate) const TIE_MARKS: usize = 3;
 
+// At how many spacings each.
 pub(crate) const SPACINGS: usize = 23;
 
-pub(crate) const TIES: usize = MARKS * SPACINGS;
+// How many ties that makes.
+pub(crate) const TIES: usize = TIE_MARKS * SPACINGS;
 
 // The bars of a face at a place, by mark and then by number, with their steel in a beam.
 fn bars_at(beam: &Beam, k: usize) -> WeighedBars

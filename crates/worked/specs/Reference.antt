@@ -75,7 +75,7 @@ live =
       right = force (negsuc 2999) (negsuc 3999) tt tt tt tt;
     }
 
--- a case that does not
+-- a case with no load
 abbrev pub no_load : Case
 no_load = let none : Force = force (pos 0) (pos 0) tt tt tt tt in record { left = none; mid = none; right = none }
 
