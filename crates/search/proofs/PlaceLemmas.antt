@@ -14,13 +14,6 @@ use Rattle.search.specs.declared.weighed.WeighedBars.{WeighedBars}
 use Rattle.search.specs.declared.weighed.WeighedTies.{WeighedTies}
 use Rattle.search.specs.Search.{IsByPlace, bars_place, mark_place, spacing_place, ties_place}
 
--- all bars and all ties have a place
-bars_place_lt : (a : Bars) → bars_place a < BARS
-bars_place_lt a = omega arith
-
-ties_place_lt : (a : Ties) → ties_place a < TIES
-ties_place_lt a = omega arith
-
 -- the bars at a place are the only ones, and so are the ties
 same_bars_place : (a b : Bars) → bars_place a ≡ bars_place b → a ≡ b
 same_bars_place a b e = same_bars a b (omega arith) (omega arith)

@@ -38,9 +38,9 @@ impl<P: Book> Search<'_, P> {
         self.weigh(Choice { cage, steel }, best)
     }
 
-    // The decision with the cages of one bottom, one top and the ties of one mark, by the place of the mark, the lightest cage
-    // first. With no question about them
-    // where the mark is out or the lightest is too heavy, and with one where the pile refuses it at every spacing.
+    // The decision with the cages of one bottom, one top and the ties of the mark at a place, the lightest cage first. With no
+    // question about them where the mark is out or the lightest is too heavy, and with one where the pile refuses it at every
+    // spacing.
     fn weigh_spacings(
         &self,
         bottom: &WeighedBars,
