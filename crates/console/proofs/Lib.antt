@@ -1,3 +1,9 @@
 pub mod Stream
+pub mod Taking
 pub mod Room
-pub mod Printing
+pub mod Lightest
+pub mod Only
+pub mod Ending
+pub mod Sinks
+pub mod Continuing
+pub mod Stopping

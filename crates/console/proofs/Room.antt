@@ -1,5 +1,5 @@
 -- How long a bill can get, and what one line more makes of it.
-use Rattle.std.proofs.Common.{◌≡◌, ℕ, ◌+◌, ◌<◌, ◌≤◌, Bool, true, false, cond, List, [], ◌∷◌, ◌++◌, length, take, codes, decimal, nat_lt, Some, None, Ok, Err, Result, sym, refl, ap, ◌∙◌, subst, arith, length-append, append-nil, add-one, ltb-false}
+use Rattle.std.proofs.Common.{◌≡◌, ◌⊎◌, inl, inr, ℕ, ◌+◌, ◌<◌, ◌≤◌, Bool, true, false, cond, List, [], ◌∷◌, ◌++◌, length, take, codes, decimal, nat_lt, Some, None, Ok, Err, sym, refl, ap, ◌∙◌, subst, arith, length-append, append-nil, add-one, ltb-false}
 use Rattle.std.proofs.lemmas.Option.{none-some}
 use Rattle.std.proofs.lemmas.Fmt.{length-decimal-le}
 use Rattle.std.proofs.lemmas.Bool.Decides.{nat_tests}
@@ -8,7 +8,7 @@ use Rattle.rebar.specs.declared.cage.Ties.{Ties}
 use Rattle.search.specs.declared.decision.Choice.{Choice}
 use Rattle.sheet.specs.declared.reading.Reading.{Reading}
 use Rattle.sheet.specs.declared.reading.Shown.{Shown}
-use Rattle.sheet.specs.declared.reading.Shown.TheVariants.{Chosen}
+use Rattle.sheet.specs.declared.reading.Shown.TheVariants.{Empty, Open, Chosen, Impossible}
 use Rattle.bill.specs.Text.{two}
 use Rattle.bill.specs.Bill.{bars_text, ties_text, line_text, total_text, head_text}
 use Rattle.bill.specs.Steps.{short, why_line, Added, BegunAs, LineAs, TotalAs}
@@ -19,8 +19,7 @@ use Rattle.bill.specs.declared.bill.Totalled.{Totalled}
 use Rattle.bill.specs.declared.refusal.Refusal.{Refusal}
 use Rattle.bill.specs.declared.refusal.Refusal.TheVariants.{PageShort}
 use Rattle.console.specs.Bills.{line_at, lines_below}
-use Rattle.console.specs.Billing.{roomy, Billed, AddsLine, AddsLines, WritesBill}
-use Rattle.console.specs.declared.failure.Failure.{Failure}
+use Rattle.console.specs.Billing.{roomy, Billed}
 
 bars_length : (b : Bars) → length (bars_text b) ≤ 5
 bars_length b =
@@ -59,23 +58,17 @@ next_lines : (shown : ℕ → Shown) (n : ℕ) (s : Shown) → shown n ≡ s →
 next_lines shown n s e = rw add-one (ap (λ (v : Shown). lines_below shown n ++ line_at n v) e)
 
 -- a place that is not chosen makes no line
-pub left_out : (bill : Begun) (page : List ℕ) (shown : ℕ → Shown) (place : ℕ) (s : Shown) → shown place ≡ s → line_at place s ≡ [] → AddsLine bill page shown place (Ok bill) page
-unfolding AddsLine
-left_out bill page shown place s e none =
-    λ small b.
-    let same : lines_below shown (place + 1) ≡ lines_below shown place =
-    next_lines shown place s e ∙ ap (λ (l : List (ℕ × Choice)). lines_below shown place ++ l) none ∙ append-nil (lines_below shown place) in
+pub left_out : (bill : Begun) (page : List ℕ) (shown : ℕ → Shown) (place n : ℕ) (s : Shown) → n ≡ place + 1 → shown place ≡ s → line_at place s ≡ []
+    → Billed shown place page bill → Billed shown n page bill
+left_out bill page shown place n s more e none b =
+    let same : lines_below shown n ≡ lines_below shown place =
+    ap (lines_below shown) more ∙ next_lines shown place s e ∙ ap (λ (l : List (ℕ × Choice)). lines_below shown place ++ l) none ∙ append-nil (lines_below shown place) in
     record {
       lines = subst (λ (l : List (ℕ × Choice)). HasLines l page bill) (sym same) b.lines;
       few = omega (arith, b.few);
       short = omega (arith, b.short);
       room = b.room;
     }
-
--- there is no place after the last
-pub no_place : (bill : Begun) (page : List ℕ) (shown : ℕ → Shown) (place : ℕ) → 63 < place → AddsLine bill page shown place (Ok bill) page
-unfolding AddsLine
-no_place bill page shown place past = λ small b. absurd (omega (arith, past, small))
 
 -- a line that the page has room for is not refused
 not_refused : (bill : Begun) (page : List ℕ) (place : ℕ) (x : Choice) (e : Refusal) → bill.lines < 64 → bill.written + 38 ≤ length page
@@ -87,12 +80,12 @@ not_refused bill page place x e few room h =
     none-some e (sym (rw (t, f) refl) ∙ h)
 
 -- a chosen place makes one
-pub line_more : (bill : Begun) (page : List ℕ) (shown : ℕ → Shown) (place : ℕ) (reading : Reading) (x : Choice) (r : Result Begun Refused) (page' : List ℕ)
+pub line_more : (bill bill' : Begun) (page page' : List ℕ) (shown : ℕ → Shown) (place : ℕ) (reading : Reading) (x : Choice)
     → length page' ≡ length page → reading.place ≡ place → reading.shown ≡ shown place → reading.shown ≡ Chosen x
-    → LineAs bill page reading r page' → TakesLine bill page reading r page' → AddsLine bill page shown place r page'
-unfolding AddsLine TakesLine
-line_more bill page shown place reading x (Ok bill') page' long at is chosen l takes =
-    λ small b.
+    → LineAs bill page reading (Ok bill') page' → TakesLine bill page reading (Ok bill') page'
+    → Billed shown place page bill → Billed shown (place + 1) page' bill'
+unfolding TakesLine
+line_more bill bill' page page' shown place reading x long at is chosen l takes b =
     let t = takes (lines_below shown place) b.lines in
     let a = added l.1 in
     let size = line_length reading.place x in
@@ -106,32 +99,12 @@ line_more bill page shown place reading x (Ok bill') page' long at is chosen l t
   where
     added : Added bill page reading.place reading.shown bill' page' → (bill'.written ≡ bill.written + length (line_text reading.place x)) × (bill'.lines ≡ bill.lines + 1)
     added d = let c : Added bill page reading.place (Chosen x) bill' page' = subst (λ (s : Shown). Added bill page reading.place s bill' page') chosen d in (c.0.1, c.1)
-line_more bill page shown place reading x (Err e) page' long at is chosen l takes =
-    λ small b.
+
+pub line_fits : (bill : Begun) (page page' : List ℕ) (shown : ℕ → Shown) (place : ℕ) (reading : Reading) (x : Choice) (e : Refused)
+    → place < 64 → reading.shown ≡ Chosen x → LineAs bill page reading (Err e) page' → Billed shown place page bill → ⊥
+line_fits bill page page' shown place reading x e small chosen l b =
     not_refused bill page reading.place x e.refusal (omega (arith, b.few, small)) (omega (arith, b.short, b.room, small))
     (ap (λ (s : Shown). why_line bill page reading.place s) (sym chosen) ∙ l.0)
-
--- what a line more says where it is refused, and where it is not
-module _ (bill : Begun) (page : List ℕ) (shown : ℕ → Shown) (place : ℕ) (page' : List ℕ) where
-  pub add_on : (bill' : Begun) → AddsLine bill page shown place (Ok bill') page' → place < 64 → Billed shown place page bill
-      → Billed shown (place + 1) page' bill'
-  unfolding AddsLine
-  add_on bill' a = a
-
-  pub add_fails : (e : Refused) → AddsLine bill page shown place (Err e) page' → place < 64 → Billed shown place page bill → ⊥
-  unfolding AddsLine
-  add_fails e a = a
-
--- the loop over the places, at its end and where it stops
-module _ (begun : Begun) (page : List ℕ) (shown : ℕ → Shown) (page' : List ℕ) where
-  pub all_added : (bill : Begun) (n : ℕ) → n ≤ 64 → 64 ≤ n → (Billed shown 0 page begun → Billed shown n page' bill)
-      → AddsLines begun page shown (Ok bill) page'
-  unfolding AddsLines
-  all_added bill n le ge h = let e : n ≡ 64 = omega (arith, le, ge) in λ b. subst (λ (k : ℕ). Billed shown k page' bill) e (h b)
-
-  pub add_stops : (r : Result Begun Refused) (e : Refused) → r ≡ Err e → (Billed shown 0 page begun → ⊥) → AddsLines begun page shown r page'
-  unfolding AddsLines
-  add_stops r e is h = subst (λ (v : Result Begun Refused). AddsLines begun page shown v page') (sym is) h
 
 total_length : (b : Begun) → length (total_text b.lines b.steel) ≤ 22
 total_length b =
@@ -178,30 +151,8 @@ module _ (page page' : List ℕ) (shown : ℕ → Shown) (long : length page' �
   pub total_fits : (bill : Begun) (e : Refused) → TotalAs bill page (Err e) page' → Billed shown 64 page bill → ⊥
   total_fits bill e h b = roomy_enough page (total_text bill.lines bill.steel) bill.written e.refusal (omega (arith, b.room, b.short, total_length bill)) h.0
 
--- from all lines to the whole bill
-module _ (page : List ℕ) (shown : ℕ → Shown) (page' : List ℕ) where
-  pub written_bill : (n : ℕ) → (length page ≡ roomy → (take n page' ≡ bill_text (lines_below shown 64)) × (n ≤ roomy)) → WritesBill page shown (Ok n) page'
-  unfolding WritesBill
-  written_bill n h = h
-
-  pub never_stops : (r : Result ℕ Failure) (e : Failure) → r ≡ Err e → (length page ≡ roomy → ⊥) → WritesBill page shown r page'
-  unfolding WritesBill
-  never_stops r e is h = subst (λ (v : Result ℕ Failure). WritesBill page shown v page') (sym is) h
-
-  pub lines_on : (begun bill : Begun) → AddsLines begun page shown (Ok bill) page' → Billed shown 0 page begun → Billed shown 64 page' bill
-  unfolding AddsLines
-  lines_on begun bill a = a
-
-  pub lines_fail : (begun : Begun) (e : Refused) → AddsLines begun page shown (Err e) page' → Billed shown 0 page begun → ⊥
-  unfolding AddsLines
-  lines_fail begun e a = a
-
--- a page with room takes the whole bill
-pub on_page : (page : List ℕ) (shown : ℕ → Shown) (n : ℕ) (page' : List ℕ) → WritesBill page shown (Ok n) page' → length page ≡ roomy
-    → (take n page' ≡ bill_text (lines_below shown 64)) × (n ≤ roomy)
-unfolding WritesBill
-on_page page shown n page' h = h
-
-pub no_refusal : (page : List ℕ) (shown : ℕ → Shown) (r : Result ℕ Failure) (e : Failure) (page' : List ℕ) → r ≡ Err e → WritesBill page shown r page' → length page ≡ roomy → ⊥
-unfolding WritesBill
-no_refusal page shown r e page' is h = subst (λ (v : Result ℕ Failure). WritesBill page shown v page') is h
+-- a place that shows no chosen cage makes no line
+pub no_line : (p : ℕ) (s : Shown) → (s ≡ Empty) ⊎ ((s ≡ Open) ⊎ ((n : ℕ) × (s ≡ Impossible n))) → line_at p s ≡ []
+no_line p s (inl e) = ap (line_at p) e
+no_line p s (inr (inl e)) = ap (line_at p) e
+no_line p s (inr (inr (n, e))) = ap (line_at p) e

@@ -4,4 +4,4 @@ pub mod Orders
 pub mod Bills
 pub mod Billing
 pub mod Printed
-pub mod Failures
+pub mod Streams

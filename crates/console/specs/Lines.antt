@@ -1,6 +1,5 @@
 -- The lines that the console writes of orders.
-use Rattle.std.specs.Prelude.{ℕ, List, [], ◌++◌, codes, decimal, Some, None, Ok, Err, Option, Result, flat_map}
-use Rattle.std.proofs.Math.Utf8.{encode}
+use Rattle.std.specs.Prelude.{ℕ, List, [], ◌∷◌, ◌++◌, codes, decimal, Some, None, Ok, Err, Option, Result, flat_map}
 use Rattle.sheet.specs.declared.call.Answer.{Answer}
 use Rattle.sheet.specs.declared.call.Answer.TheVariants as answer
 use Rattle.sheet.specs.declared.call.Call.{Call}
@@ -23,7 +22,7 @@ outcome_text (Err e) = codes "REFUSED " ++ (decimal (refusal_number e) ++ (codes
 
 -- letter, place or mark, and what became of the order
 abbrev pub line_text : ℕ → ℕ → Result Outcome Refusal → List ℕ
-line_text letter number o = encode letter ++ (codes " " ++ (decimal number ++ (codes " " ++ outcome_text o)))
+line_text letter number o = letter ∷ (codes " " ++ (decimal number ++ (codes " " ++ outcome_text o)))
 
 -- what became of a design order, by what its place then shows
 abbrev pub outcome_shown : Shown → Outcome

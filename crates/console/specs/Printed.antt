@@ -1,5 +1,6 @@
 -- What the console prints of a stream of orders, on a pile of article books with these answers.
-use Rattle.std.specs.Prelude.{◌≡◌, ℕ, Bool, true, false, List, [], ◌++◌, map, reverse, codes, All}
+use Rattle.std.specs.Prelude.{◌≡◌, ℕ, Bool, true, false, List, [], ◌++◌, map, reverse, codes, All, Option, IfSome}
+use Rattle.std.specs.Io.KnownBytes.{Appends}
 use Rattle.rebar.specs.declared.beam.Beam.{Beam}
 use Rattle.rebar.specs.declared.cage.Cage.{Cage}
 use Rattle.search.specs.declared.decision.Choice.{Choice}
@@ -14,7 +15,7 @@ use Rattle.sheet.specs.Law.{call_of, calls_of, AllAnswered, Lawful}
 use Rattle.bill.specs.Whole.{bill_text}
 use Rattle.console.specs.Bills.{lines_below}
 use Rattle.console.specs.Lines.{lines_text}
-use Rattle.console.specs.Orders.{Spells}
+use Rattle.console.specs.Orders.{Leaves, NoOrder, Spells}
 
 -- the line where the reading of a stream stops
 abbrev pub stop_text : Bool → List ℕ
@@ -40,3 +41,25 @@ IsLightestAfter pile calls line = (b : Beam) × (IsBeamAfter calls line.0 b × L
 pub record ShowsLightest (pile : Beam → Cage → ℕ) (stream out : List ℕ) : Type 0 where
   pub printed : IsPrinted pile stream out
   pub lightest : All (IsLightestAfter pile (calls_of printed.exchanges)) (lines_below printed.shown place_count)
+
+-- once these bytes have come, this has been printed: the lines of the orders that stand whole in them, each with the answer that
+-- the calls before it determine
+pub record IsPrintedSoFar (pile : Beam → Cage → ℕ) (stream out : List ℕ) : Type 0 where
+  pub exchanges : List Exchange
+  pub rest : List ℕ
+  pub whole : Leaves stream (map call_of exchanges) rest
+  pub unfinished : NoOrder rest
+  pub answered : AllAnswered pile (reverse exchanges)
+  pub text : out ≡ lines_text exchanges
+
+-- what is known of a sink grows by what is printed of these bytes: by that text and no other, and every line of its bill shows the
+-- lightest cage
+pub record Prints (pile : Beam → Cage → ℕ) (stream : List ℕ) (old new : Option (List ℕ)) : Type 0 where
+  pub text : List ℕ
+  pub shows : ShowsLightest pile stream text
+  pub alone : (other : List ℕ) → IsPrinted pile stream other → other ≡ text
+  pub printed : Appends old new text
+
+-- the same, where the bytes are known
+abbrev pub PrintsKnown : (Beam → Cage → ℕ) → Option (List ℕ) → Option (List ℕ) → Option (List ℕ) → Type 0
+PrintsKnown pile known old new = IfSome known (λ stream. Prints pile stream old new)

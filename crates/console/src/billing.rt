@@ -1,68 +1,78 @@
-ghost use Rattle.std.specs.Prelude.{◌≡◌, ◌++◌, OnOk, IfErr};
+ghost use Rattle.std.specs.Prelude.{◌≡◌, ◌+◌, ◌<◌, ◌≤◌, length, take};
 ghost use Rattle.bill.specs.Whole.{bill_text};
 ghost use Rattle.sheet.specs.Shown.{shown_at};
 ghost use Rattle.sheet.specs.Size.{place_count};
-ghost use Rattle.console.specs.Billing.{AddsLine, AddsLines, WritesBill};
+ghost use Rattle.console.specs.Billing.{roomy, Billed};
 ghost use Rattle.console.specs.Bills.{lines_below};
-ghost use Rattle.console.specs.declared.failure.Failure.TheVariants.{NoMemory};
 
-use crate::failure::Failure;
 use bill::bill::{Begun, Refused};
 use books::book::Book;
 use sheet::reading::Shown;
 use sheet::sheet::Sheet;
 
 // A bill of 64 places fits on a page of this length: a head of 6 bytes, lines of 38 at most, and a total of 22 at most.
-const PAGE: usize = 2460;
+pub(crate) const PAGE: usize = 2460;
+
+// A bill of no line yet.
+fn begin<P: Book>(page: &mut [u8], sheet: &Sheet<P>) -> Begun
+    requires { length page.old ≡ roomy }
+    ensures { Billed (shown_at sheet.now) 0 page.new result }
+{
+    let Ok(bill) = Begun::begin(page) else {
+        unreachable!();
+    };
+    bill
+}
 
 // A line more, where the place is chosen.
-#[tactic(auto, using(crate::proofs::Room::left_out, crate::proofs::Room::no_place, crate::proofs::Room::line_more))]
-fn add_line<P: Book>(
-    bill: Begun,
-    page: &mut [u8],
-    sheet: &Sheet<P>,
-    place: u8,
-) -> Result<Begun, Refused>
-    ensures { AddsLine bill page.old (shown_at sheet.now) place result page.new }
+fn add_line<P: Book>(bill: Begun, page: &mut [u8], sheet: &Sheet<P>, place: u8) -> Begun
+    requires there { place < place_count }
+    requires lines_so_far { Billed (shown_at sheet.now) place page.old bill }
+    ensures { Billed (shown_at sheet.now) (place + 1) page.new result }
 {
     let Ok(reading) = sheet.read(place) else {
-        return Ok(bill);
+        return bill;
     };
     match reading.shown {
-        Shown::Chosen(_) => bill.line(page, &reading),
-        Shown::Empty | Shown::Open | Shown::Impossible(_) => Ok(bill),
+        Shown::Chosen(_) => match bill.line(page, &reading) {
+            Ok(longer) => longer,
+            Err(Refused { bill, refusal: _ }) => bill,
+        },
+        Shown::Empty | Shown::Open | Shown::Impossible(_) => bill,
     }
 }
 
 // A line for each place that is chosen, in the order of the places.
-fn add_lines<P: Book>(begun: Begun, page: &mut [u8], sheet: &Sheet<P>) -> Result<Begun, Refused>
-    ensures { AddsLines begun page.old (shown_at sheet.now) result page.new }
+fn add_lines<P: Book>(begun: Begun, page: &mut [u8], sheet: &Sheet<P>) -> Begun
+    requires { Billed (shown_at sheet.now) 0 page.old begun }
+    ensures { Billed (shown_at sheet.now) place_count page.new result }
 {
     let mut bill = begun;
     for place in 0..64 {
-        bill = add_line(bill, page, sheet, place)?;
+        bill = add_line(bill, page, sheet, place);
     }
-    Ok(bill)
+    bill
+}
+
+// The last line, and how many bytes the bill has.
+fn total<P: Book>(bill: Begun, page: &mut [u8], sheet: &Sheet<P>) -> usize
+    requires { Billed (shown_at sheet.now) place_count page.old bill }
+    ensures text { take result page.new ≡ bill_text (lines_below (shown_at sheet.now) place_count) }
+    ensures fits { result ≤ roomy }
+{
+    match bill.total(page) {
+        Ok(totalled) => totalled.written,
+        Err(Refused { bill, refusal: _ }) => bill.tear(),
+    }
 }
 
 // Writes the bill of the chosen places on the page, and says how many bytes it has.
-fn write_bill<P: Book>(page: &mut [u8], sheet: &Sheet<P>) -> Result<usize, Failure>
-    ensures { WritesBill page.old (shown_at sheet.now) result page.new }
+pub(crate) fn write_bill<P: Book>(page: &mut [u8], sheet: &Sheet<P>) -> usize
+    requires { length page.old ≡ roomy }
+    ensures text { take result page.new ≡ bill_text (lines_below (shown_at sheet.now) place_count) }
+    ensures fits { result ≤ roomy }
 {
-    let begun = Begun::begin(page)?;
-    let lined = add_lines(begun, page, sheet)?;
-    let totalled = lined.total(page)?;
-    Ok(totalled.written)
-}
-
-// Adds the bill of the chosen places to what is printed.
-#[tactic(auto, using(crate::proofs::Room::no_refusal))]
-pub(crate) fn append_bill<P: Book>(sheet: &Sheet<P>, out: &mut Vec<u8>) -> Result<(), Failure>
-    ensures bill { OnOk result (out.new.items ≡ out.old.items ++ bill_text (lines_below (shown_at sheet.now) place_count)) }
-    ensures only_want_of_memory { IfErr result (λ failure. failure ≡ NoMemory) }
-{
-    let mut page = [0; PAGE];
-    let written = write_bill(&mut page, sheet)?;
-    out.extend_from_slice(&page[..written])?;
-    Ok(())
+    let begun = begin(page, sheet);
+    let lined = add_lines(begun, page, sheet);
+    total(lined, page, sheet)
 }

@@ -1,31 +1,115 @@
-ghost use Rattle.std.specs.Prelude.{◌≡◌, IfOk, IfErr};
-ghost use Rattle.console.specs.Printed.{IsPrinted, ShowsLightest};
-ghost use Rattle.console.specs.declared.failure.Failure.TheVariants.{NoMemory};
+ghost use Rattle.std.specs.Prelude.{◌≡◌, ◌+◌, ◌<◌, ◌≤◌, true, [], ◌++◌, length};
+ghost use Rattle.arrayvec.specs.ArrayVec.{array_vec_len};
+ghost use Rattle.console.specs.Orders.{begins_known};
+ghost use Rattle.console.specs.Printed.{stop_text};
 
-use crate::billing::append_bill;
-use crate::failure::Failure;
-use crate::spelling::spell;
-use crate::transcript::{write_lines, write_stop};
+use crate::billing::{PAGE, write_bill};
+use crate::line::{Line, line_of};
+use crate::order::{is_letter, next_call};
+use arrayvec::ArrayVec;
 use books::book::Book;
-use sheet::run::run;
-use std::alloc::Global;
+use sheet::sheet::Sheet;
 
-// The answer to a stream of orders to a sheet on a pile of article books: a line for each order, then the bill of the chosen
-// places.
-pub fn answer_orders<P: Book + Drop>(
-    heap: Global,
-    pile: P,
-    stream: &[u8],
-) -> Result<Vec<u8>, Failure>
-    ensures lines_and_bill { IfOk result (λ out. IsPrinted (P.Book.answer pile) stream.now out.items) }
-    ensures printed_cages_are_sound_and_lightest { IfOk result (λ out. ShowsLightest (P.Book.answer pile) stream.now out.items) }
-    ensures only_want_of_memory { IfErr result (λ failure. failure ≡ NoMemory) }
+// A console: a sheet on a pile of article books, the bytes of an order that is not whole yet, and whether the reading has
+// stopped at an unknown letter.
+#[derive(Drop)]
+pub struct Console<P> {
+    sheet: Sheet<P>,
+    pending: ArrayVec<u8, 258>,
+    stopped: bool,
+    ghost room: { length pending.items < 258 },
+    ghost begun: { begins_known pending.items ≡ true },
+}
+
+// What is printed at the end.
+pub type Ending = ArrayVec<u8, 2465>;
+
+// Adds bytes to what is printed at the end.
+fn append(ending: &mut Ending, bytes: &[u8])
+    requires { array_vec_len ending.old + length bytes.now ≤ 2465 }
+    ensures items { ending.new.items ≡ ending.old.items ++ bytes.now }
+    ensures len { array_vec_len ending.new ≡ array_vec_len ending.old + length bytes.now }
 {
-    let mut spelled = spell(heap, stream)?;
-    let sheet = run(pile, spelled.exchanges.as_mut_slice());
-    let mut out = Vec::new(heap);
-    write_lines(heap, spelled.exchanges.as_slice(), &mut out)?;
-    write_stop(spelled.stopped, &mut out)?;
-    append_bill(&sheet, &mut out)?;
-    Ok(out)
+    let Ok(()) = ending.try_extend_from_slice(bytes) else {
+        unreachable!();
+    };
+}
+
+// STOP, where the stream is cut.
+fn stop_of(is_cut: bool) -> Ending
+    ensures text { result.items ≡ stop_text is_cut }
+    ensures len { array_vec_len result ≤ 5 }
+{
+    let mut ending = ArrayVec::new();
+    if is_cut {
+        append(&mut ending, b"STOP\n");
+    }
+    ending
+}
+
+impl<P: Book> Console<P> {
+    ghost use Rattle.std.specs.Prelude.{◌||◌, ◌==◌, not};
+    ghost use Rattle.console.specs.Streams.{LedTo, GoesOn, PrintsSoFar, PrintsAlone, TellsStop, EndsPrinted, EndsLightest, EndsAlone};
+
+    // A console before the first byte.
+    #[tactic(auto, using(crate::proofs::Taking::opened))]
+    pub fn open(pile: P) -> Console<P>
+        ensures keeps_the_pile { result.sheet.pile ≡ pile }
+        ensures history_begins { LedTo (P.Book.answer pile) [] [] result }
+    {
+        Console {
+            sheet: Sheet::open(pile),
+            pending: ArrayVec::new(),
+            stopped: false,
+        }
+    }
+
+    // Takes a byte, and gives the line that is due with it: that of the order whose last byte it is.
+    pub fn take(&mut self, byte: u8) -> Option<Line>
+        ensures keeps_the_pile { self.new.sheet.pile ≡ self.old.sheet.pile }
+        ensures history_goes_on_by_this_byte { GoesOn (P.Book.answer self.old.sheet.pile) self.old byte result self.new }
+        ensures lines_of_the_orders_that_stand_whole { PrintsSoFar (P.Book.answer self.old.sheet.pile) self.old byte result }
+        ensures no_other_lines { PrintsAlone (P.Book.answer self.old.sheet.pile) self.old byte result }
+    {
+        if self.stopped {
+            return None;
+        }
+        if self.pending.is_empty() && !is_letter(byte) {
+            self.stopped = true;
+            return None;
+        }
+        self.pending.push(byte);
+        let (call, _) = next_call(self.pending.as_slice())?;
+        let line = line_of(&call, self.sheet.make(&call));
+        self.pending.clear();
+        line
+    }
+
+    // Whether the stream ends in bytes that no order begins.
+    fn is_cut(&self) -> bool
+        ensures { result ≡ (self.now.stopped || not (length self.now.pending.items == 0)) }
+    {
+        self.stopped || !self.pending.is_empty()
+    }
+
+    // What is printed at the end of the stream: STOP where it ends in bytes that no order begins, and the bill.
+    pub fn end(&self) -> Ending
+        ensures lines_and_bill { EndsPrinted (P.Book.answer self.now.sheet.pile) self.now result.items }
+        ensures printed_cages_are_sound_and_lightest { EndsLightest (P.Book.answer self.now.sheet.pile) self.now result.items }
+        ensures nothing_else_is_printed { EndsAlone (P.Book.answer self.now.sheet.pile) self.now result.items }
+    {
+        let mut ending = stop_of(self.is_cut());
+        let mut page = [0; PAGE];
+        let written = write_bill(&mut page, &self.sheet);
+        append(&mut ending, &page[..written]);
+        ending
+    }
+
+    // Whether the reading has stopped at an unknown letter, and bytes that come now change nothing.
+    pub fn has_stopped(&self) -> bool
+        ensures as_kept { result ≡ self.now.stopped }
+        ensures as_the_stream { TellsStop (P.Book.answer self.now.sheet.pile) self.now result }
+    {
+        self.stopped
+    }
 }

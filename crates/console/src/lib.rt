@@ -1,10 +1,10 @@
-// The console: a stream of orders in, one line per order and the bending bill out.
+// The console: orders in, byte by byte, a line as soon as an order is whole, and the bending bill at the end.
 #![tactic(auto)]
 
 mod billing; // the bill of the places that are chosen
-pub mod console; // a whole stream from its first byte to the bill
-pub mod failure; // why a stream gets no output
-mod line; // the line of an order
+pub mod console; // a console, from its first byte to the bill
+pub mod line; // the line of an order
 mod order; // the first order of a stream
-mod spelling; // the calls that a stream spells
-mod transcript; // the lines of all orders
+pub mod page; // a stream that is there whole, on a page
+pub mod printing; // a whole stream, from a reader to a sink
+pub mod vector; // a stream that is there whole, in a vector

@@ -1,10 +1,16 @@
-ghost use Rattle.std.specs.Prelude.{◌≡◌, Some};
-ghost use Rattle.console.specs.Lines.{line_text, outcome_of, outcome_shown, head_of};
+ghost use Rattle.std.specs.Prelude.{◌≡◌, ◌+◌, ◌<◌, ◌≤◌, ◌++◌, Some};
+ghost use Rattle.arrayvec.specs.ArrayString.{array_string_len};
+ghost use Rattle.console.specs.Lines.{outcome_text, line_text, outcome_of, outcome_shown, head_of, text_of};
+ghost use Rattle.console.specs.Streams.{text_due};
 
+use arrayvec::ArrayString;
+use itoa::{Buffer, Integer};
 use sheet::call::{Answer, Call};
 use sheet::reading::Shown;
 use sheet::refusal::Refusal;
-use std::fmt;
+
+// The line of an order: its letter, its place or mark, and what became of it.
+pub type Line = ArrayString<64>;
 
 // What became of an order that was not refused.
 #[derive(Clone, Copy, Debug, PartialEq, Eq)]
@@ -27,30 +33,22 @@ impl From<Shown> for Outcome {
     }
 }
 
-// The line of an order: its letter, its place or mark, and what became of it.
-#[derive(Clone, Copy)]
-pub(crate) struct Line {
-    pub(crate) letter: char,
-    pub(crate) number: u8,
-    pub(crate) outcome: Result<Outcome, Refusal>,
-}
-
 // The letter of the order that spells a call, and the place or the mark that its line shows; none where no order spells it.
-pub(crate) fn head_of(call: &Call) -> Option<(char, u8)>
+fn head_of(call: &Call) -> Option<(u8, u8)>
     ensures { result ≡ head_of call.now }
 {
     match *call {
-        Call::Enter { place, .. } => Some(('E', place)),
-        Call::Correct { place, .. } => Some(('K', place)),
-        Call::Strike { place } => Some(('X', place)),
-        Call::Stock { mark, .. } => Some(('S', mark)),
-        Call::Design { place } => Some(('D', place)),
+        Call::Enter { place, .. } => Some((b'E', place)),
+        Call::Correct { place, .. } => Some((b'K', place)),
+        Call::Strike { place } => Some((b'X', place)),
+        Call::Stock { mark, .. } => Some((b'S', mark)),
+        Call::Design { place } => Some((b'D', place)),
         Call::Read { .. } | Call::Count => None,
     }
 }
 
 // What became of an order, by what its call was answered.
-pub(crate) fn outcome_of(answer: Result<Answer, Refusal>) -> Result<Outcome, Refusal>
+fn outcome_of(answer: Result<Answer, Refusal>) -> Result<Outcome, Refusal>
     ensures { result ≡ outcome_of answer }
 {
     Ok(match answer? {
@@ -59,21 +57,57 @@ pub(crate) fn outcome_of(answer: Result<Answer, Refusal>) -> Result<Outcome, Ref
     })
 }
 
-impl fmt::Display for Line {
-    ghost output = { λ line. Some (line_text line.letter line.number line.outcome) };
+// Adds a number, with no leading zero.
+fn push_number<I: Integer>(line: &mut Line, n: I)
+    requires { array_string_len line.old + I.MAX_STR_LEN ≤ 64 }
+    ensures text { line.new.bytes ≡ line.old.bytes ++ I.text n }
+    ensures len { array_string_len line.new ≤ array_string_len line.old + I.MAX_STR_LEN }
+{
+    let mut digits = Buffer::new();
+    line.push_str(digits.format(n));
+}
 
-    fn fmt<W: fmt::Write>(&self, f: &mut fmt::Formatter<W>) -> fmt::Result {
-        let letter = self.letter;
-        let number = self.number;
-        match self.outcome {
-            Ok(Outcome::Done) => writeln!(f, "{letter} {number} OK"),
-            Ok(Outcome::Cage) => writeln!(f, "{letter} {number} CAGE"),
-            Ok(Outcome::NoCage(article)) => writeln!(f, "{letter} {number} NONE {article}"),
-            Err(refusal) => {
-                let why = u8::from(refusal);
-                let place = refusal.byte_place();
-                writeln!(f, "{letter} {number} REFUSED {why} {place}")
-            }
+// Adds what became of an order, up to the line's end.
+fn push_outcome(line: &mut Line, outcome: Result<Outcome, Refusal>)
+    requires { array_string_len line.old + 33 ≤ 64 }
+    ensures { line.new.bytes ≡ line.old.bytes ++ outcome_text outcome }
+{
+    match outcome {
+        Ok(Outcome::Done) => line.push_str("OK\n"),
+        Ok(Outcome::Cage) => line.push_str("CAGE\n"),
+        Ok(Outcome::NoCage(article)) => {
+            line.push_str("NONE ");
+            push_number(line, article);
+            line.push_str("\n");
+        }
+        Err(refusal) => {
+            line.push_str("REFUSED ");
+            push_number(line, u8::from(refusal));
+            line.push_str(" ");
+            push_number(line, refusal.byte_place());
+            line.push_str("\n");
         }
     }
+}
+
+// A line. Not by `write!`, whose contract does not say that the text fits.
+fn line_by(letter: u8, number: u8, outcome: Result<Outcome, Refusal>) -> Line
+    requires { letter < 128 }
+    ensures { result.bytes ≡ line_text letter number outcome }
+{
+    let mut line = Line::new();
+    line.push(char::from(letter));
+    line.push_str(" ");
+    push_number(&mut line, number);
+    line.push_str(" ");
+    push_outcome(&mut line, outcome);
+    line
+}
+
+// The line of a call that was made, where an order spells it.
+pub(crate) fn line_of(call: &Call, answer: Result<Answer, Refusal>) -> Option<Line>
+    ensures { text_due result ≡ text_of (record { call = call.now; answer = Some answer }) }
+{
+    let (letter, number) = head_of(call)?;
+    Some(line_by(letter, number, outcome_of(answer)))
 }

@@ -1,13 +1,20 @@
-ghost use Rattle.std.specs.Prelude.{◌<◌, length, IfSome, MatchOption};
-ghost use Rattle.console.specs.Orders.{Begins, NoOrder};
+ghost use Rattle.std.specs.Prelude.{◌≡◌, ◌<◌, true, length, IfNone, MatchOption};
+ghost use Rattle.console.specs.Orders.{Begins, NoOrder, is_letter, begins_known};
 
 use sheet::call::Call;
 
+// Whether an order begins with this letter.
+pub(crate) fn is_letter(letter: u8) -> bool
+    ensures { result ≡ is_letter letter }
+{
+    matches!(letter, b'E' | b'K' | b'X' | b'S' | b'D')
+}
+
 // The call of the first order of a stream, and what follows the order; none where the letter is unknown or the order is cut.
-// The numbers of the call are the stream's bytes, whatever they are.
+// The numbers of the call are the stream's bytes, whatever they are. An order has at most 258 bytes.
 pub(crate) fn next_call(stream: &[u8]) -> Option<(Call<'_>, &[u8])>
     ensures first_order { MatchOption result (NoOrder stream.now) (λ x. Begins stream.now x.0 x.1.now) }
-    ensures shorter { IfSome result (λ x. length x.1.now < length stream.now) }
+    ensures short { IfNone result (begins_known stream.now ≡ true → length stream.now < 258) }
 {
     match stream {
         [b'S', kind, mark, value, rest @ ..] => {

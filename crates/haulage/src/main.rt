@@ -6,19 +6,14 @@ mod haulage; // the haulage layer, articles 71 and 72
 use crate::haulage::Haulage;
 use books::frame::Frame;
 use books::general::General;
-use console::console::answer_orders;
-use std::io::{Read, Write};
+use console::printing::answer_orders;
+use std::io;
 
-fn main(rt: HostRuntime) -> anyhow::Result<()> {
-    let heap = rt.alloc();
-    let mut stream = Vec::new(heap);
-    rt.stdin().read_to_end(&mut stream)?;
+fn main(rt: HostRuntime) -> io::Result<()> {
     let pile = Haulage {
         below: Frame { below: General },
         bed: 6000,
         lifts: 75,
     };
-    let out = answer_orders(heap, pile, stream.as_slice())?;
-    rt.stdout().write_all(out.as_slice())?;
-    Ok(())
+    answer_orders(pile, &mut rt.stdin(), &mut rt.stdout())
 }

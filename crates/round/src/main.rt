@@ -9,8 +9,8 @@ mod workshop; // the book of the workshop
 
 use crate::record::next_stream;
 use crate::workshop::Workshop;
-use console::console::answer_orders;
-use std::io::{Read, Write};
+use console::printing::answer_orders;
+use std::io::Read;
 
 fn main(rt: HostRuntime) -> anyhow::Result<()> {
     let heap = rt.alloc();
@@ -18,8 +18,8 @@ fn main(rt: HostRuntime) -> anyhow::Result<()> {
     rt.stdin().read_to_end(&mut bytes)?;
     let mut rest = bytes.as_slice();
     while let Some((stream, after)) = next_stream(rest) {
-        let out = answer_orders(heap, Workshop, stream)?;
-        rt.stdout().write_all(out.as_slice())?;
+        let mut orders = stream;
+        answer_orders(Workshop, &mut orders, &mut rt.stdout())?;
         rest = after;
     }
     Ok(())

@@ -40,7 +40,7 @@ impl<P: Book> Sheet<P> {
 
     // Makes a call, whichever it is.
     #[tactic(auto, using(crate::proofs::Answering::done_made, crate::proofs::Answering::read_made, crate::proofs::Answering::done_lawfully, crate::proofs::Answering::shown_lawfully, crate::proofs::Answering::design_made, crate::proofs::Answering::designed_lawfully, crate::proofs::Answering::counted_lawfully))]
-    fn make(&mut self, call: &Call) -> Result<Answer, Refusal>
+    pub fn make(&mut self, call: &Call) -> Result<Answer, Refusal>
         ensures keeps_the_pile { self.new.pile ≡ self.old.pile }
         ensures as_the_call { Makes (P.Book.answer self.old.pile) self.old.table call.now (refusal result) self.new.table }
         ensures as_the_calls_before_determine { AnswersLawfully (P.Book.answer self.old.pile) self.old.table call.now result }

@@ -1,14 +1,14 @@
 use crate::reference::CARD;
 use books::frame::Frame;
 use books::general::General;
-use console::console::answer_orders;
+use console::vector::answer_stream;
 use std::alloc::AllocError;
 use std::process::Abort;
 use std::test::Fail;
 
 // Whether the console answers the stream with these bytes.
 fn answers(rt: &(impl Abort + AllocGlobal), stream: &[u8], expected: &[u8]) -> Result<(), Fail> {
-    let out = answer_orders(rt.alloc(), Frame { below: General }, stream)?;
+    let out = answer_stream(rt.alloc(), Frame { below: General }, stream)?;
     assert!(rt; out.as_slice() == expected);
     Ok(())
 }

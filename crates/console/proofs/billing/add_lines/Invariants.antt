@@ -1,8 +1,7 @@
-use Rattle.std.proofs.Common.{◌≤◌}
 use Rattle.sheet.specs.Shown.{shown_at}
+use Rattle.std.proofs.Common.{◌≤◌}
 use Rattle.console.specs.Billing.{Billed}
 use Rattle.console.proofs.billing.add_lines.Given as goal
 
 abbrev pub invariant-loop-place : goal.invariant-loop-place
-invariant-loop-place g l =
-    (l.place ≤ 64) × (Billed (shown_at l.sheet) 0 l.initial.page l.initial.bill → Billed (shown_at l.sheet) l.place l.page l.bill)
+invariant-loop-place g l = (l.place ≤ 64) × Billed (shown_at l.sheet) l.place l.page l.bill
