@@ -6,10 +6,10 @@ use Rattle.rebar.specs.declared.beam.Beam.{Beam}
 use Rattle.rebar.specs.declared.cage.Cage.{Cage}
 use Rattle.sheet.specs.Law.{call_of}
 use Rattle.sheet.specs.declared.table.Table.{Table}
-use Rattle.console.specs.Printed.{PrintsKnown}
-use Rattle.console.specs.Streams.{Led, LedTo, text_due, GoesOn, Continues, ReadsOn, ReadsAll, EndsPrinted, EndsLightest, EndsAlone}
+use Rattle.console.specs.Streams.{Led, LedTo, text_due, GoesOn, EndsPrinted, EndsLightest, EndsAlone}
+use Rattle.console.specs.Sinks.{PrintsKnown, Continues, ReadsOn, ReadsAll}
 use Rattle.console.specs.declared.console.Console.{Console}
-use Rattle.console.proofs.Stream.{leaves_more, unknown, unknown_more}
+use Rattle.console.proofs.Orders.{leaves_more, unknown, unknown_more}
 use Rattle.console.proofs.Sinks.{nothing, flushed, then}
 
 -- where the reading has stopped the stream may go on

@@ -1,4 +1,5 @@
-pub mod Stream
+pub mod Alike
+pub mod Orders
 pub mod Taking
 pub mod Room
 pub mod Lightest
@@ -7,3 +8,4 @@ pub mod Ending
 pub mod Sinks
 pub mod Continuing
 pub mod Stopping
+pub mod Pages

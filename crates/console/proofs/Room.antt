@@ -19,7 +19,8 @@ use Rattle.bill.specs.declared.bill.Totalled.{Totalled}
 use Rattle.bill.specs.declared.refusal.Refusal.{Refusal}
 use Rattle.bill.specs.declared.refusal.Refusal.TheVariants.{PageShort}
 use Rattle.console.specs.Bills.{line_at, lines_below}
-use Rattle.console.specs.Billing.{roomy, Billed}
+use Rattle.console.specs.declared.billing.TheConstants.{PAGE}
+use Rattle.console.specs.Billing.{Billed}
 
 bars_length : (b : Bars) → length (bars_text b) ≤ 5
 bars_length b =
@@ -133,16 +134,16 @@ roomy_there page bs w h = go (nat_lt (length page) (w + length bs)) refl
 
 -- the bill on a page with room
 module _ (page page' : List ℕ) (shown : ℕ → Shown) (long : length page' ≡ length page) where
-  pub begun_lines : (bill : Begun) → BeginsBill (Ok bill) page' → BegunAs page (Ok bill) page' → length page ≡ roomy → Billed shown 0 page' bill
+  pub begun_lines : (bill : Begun) → BeginsBill (Ok bill) page' → BegunAs page (Ok bill) page' → length page ≡ PAGE → Billed shown 0 page' bill
   unfolding BeginsBill
   begun_lines bill h a room =
       record { lines = h; few = omega (arith, a.2); short = omega (arith, a.1.1); room = long ∙ room }
 
-  pub begin_fits : (e : Refusal) → BegunAs page (Err e) page' → length page ≡ roomy → ⊥
+  pub begin_fits : (e : Refusal) → BegunAs page (Err e) page' → length page ≡ PAGE → ⊥
   begin_fits e h room = roomy_enough page head_text 0 e (omega (arith, room)) h.0
 
   pub ended_bill : (bill : Begun) (t : Totalled) → EndsBill bill page (Ok t) page' → TotalAs bill page (Ok t) page' → Billed shown 64 page bill
-      → (take t.written page' ≡ bill_text (lines_below shown 64)) × (t.written ≤ roomy)
+      → (take t.written page' ≡ bill_text (lines_below shown 64)) × (t.written ≤ PAGE)
   unfolding EndsBill
   ended_bill bill t h a b =
       let there = roomy_there page (total_text bill.lines bill.steel) bill.written a.0 in

@@ -9,8 +9,8 @@ use Rattle.sheet.specs.Law.{call_of}
 use Rattle.console.specs.Orders.{IsStopped, begins_known}
 use Rattle.console.specs.Streams.{Led, GoesOn, PrintsAlone, TellsStop}
 use Rattle.console.specs.declared.console.Console.{Console}
-use Rattle.console.proofs.Stream.{unknown}
-use Rattle.console.proofs.Only.{one_leaving, alone_so_far}
+use Rattle.console.proofs.Orders.{unknown, one_leaving}
+use Rattle.console.proofs.Only.{alone_so_far}
 
 tells : (pile : Beam → Cage → ℕ) (stream text : List ℕ) (t : Table) (pending : List ℕ) (stopped : Bool) → begins_known pending ≡ true
     → Led pile stream text t pending stopped → MatchBool stopped (IsStopped stream) (IsStopped stream → ⊥)

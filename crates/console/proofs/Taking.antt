@@ -18,7 +18,14 @@ use Rattle.console.specs.Orders.{Begins, NoOrder, Leaves, is_letter, begins_know
 use Rattle.console.specs.Printed.{IsPrintedSoFar}
 use Rattle.console.specs.Streams.{Course, opened as course_opened, made, Holds, Led, LedTo, text_due, GoesOn, PrintsSoFar}
 use Rattle.console.specs.declared.console.Console.{Console}
-use Rattle.console.proofs.Stream.{leaves_more, one_more, ends_here, unknown, unknown_more, no_byte}
+use Rattle.console.proofs.Orders.{leaves_more, one_more, ends_here, unknown, unknown_more, no_byte}
+
+-- a map goes through a list turned round
+pub reversed : {A B : Type 0} (f : A → B) (xs : List A) → map f (reverse xs) ≡ reverse (map f xs)
+reversed f [] = refl
+reversed f (x ∷ xs) =
+    ap (map f) (reverse-append (x ∷ []) xs) ∙ map-append f (reverse xs) (x ∷ []) ∙ ap (λ l. l ++ f x ∷ []) (reversed f xs)
+    ∙ sym (reverse-append (f x ∷ []) (map f xs))
 
 module _ (pile : Beam → Cage → ℕ) where
   -- the calls of a course are a run of the sheet
@@ -87,20 +94,12 @@ module _ (pile : Beam → Cage → ℕ) where
       }
 
   -- the lines so far
-  pub reversed : {A B : Type 0} (f : A → B) (xs : List A) → map f (reverse xs) ≡ reverse (map f xs)
-  reversed f [] = refl
-  reversed f (x ∷ xs) =
-      ap (map f) (reverse-append (x ∷ []) xs) ∙ map-append f (reverse xs) (x ∷ []) ∙ ap (λ l. l ++ f x ∷ []) (reversed f xs)
-      ∙ sym (reverse-append (f x ∷ []) (map f xs))
-
   pub so_far : (stream text : List ℕ) (t : Table) (pending : List ℕ) (stopped : Bool) → Led pile stream text t pending stopped → IsPrintedSoFar pile stream text
   so_far stream text t pending stopped l =
       record {
         exchanges = l.exchanges;
         rest = l.rest;
-        whole = l.whole;
-        unfinished = l.unfinished;
-        answered = answered_of l.course;
+        orders = record { whole = l.whole; unfinished = l.unfinished; answered = answered_of l.course };
         text = l.printed;
       }
 

@@ -5,3 +5,4 @@ pub mod Bills
 pub mod Billing
 pub mod Printed
 pub mod Streams
+pub mod Sinks

@@ -1,5 +1,5 @@
 -- The orders that a stream of bytes spells.
-use Rattle.std.specs.Prelude.{◌≡◌, ◌≢◌, ℕ, Bool, true, false, not, ◌||◌, List, [], ◌∷◌, ◌++◌, length, ◌==◌}
+use Rattle.std.specs.Prelude.{◌≡◌, ℕ, Bool, true, false, not, ◌||◌, List, [], ◌∷◌, ◌++◌, length, ◌==◌}
 use Rattle.sheet.specs.declared.call.Call.{Call}
 use Rattle.sheet.specs.declared.call.Call.TheVariants.{Enter, Correct, Strike, Stock, Design, Read, Count}
 use Rattle.console.specs.Letters.{enter_letter, correct_letter, strike_letter, stock_letter, design_letter}
@@ -20,12 +20,6 @@ Begins stream Count rest = ⊥
 abbrev pub NoOrder : List ℕ → Type 0
 NoOrder stream = (call : Call) (rest : List ℕ) → Begins stream call rest → ⊥
 
--- a stream spells these calls, one order after the other, up to its end; or up to bytes that no order begins, where it stops
-abbrev pub Spells : List ℕ → List Call → Bool → Type 0
-Spells stream [] false = stream ≡ []
-Spells stream [] true = (stream ≢ []) × NoOrder stream
-Spells stream (call ∷ calls) stopped = (rest : List ℕ) × (Begins stream call rest × Spells rest calls stopped)
-
 -- a stream begins with the orders of these calls, one after the other, and goes on with the rest
 abbrev pub Leaves : List ℕ → List Call → List ℕ → Type 0
 Leaves stream [] rest = stream ≡ rest
@@ -33,7 +27,8 @@ Leaves stream (call ∷ calls) rest = (mid : List ℕ) × (Begins stream call mi
 
 -- whether an order begins with this letter
 abbrev pub is_letter : ℕ → Bool
-is_letter b = b == enter_letter || b == correct_letter || b == strike_letter || b == stock_letter || b == design_letter
+is_letter b =
+    b == enter_letter || b == correct_letter || b == strike_letter || b == stock_letter || b == design_letter
 
 -- whether these bytes begin with such a letter, where there are any
 abbrev pub begins_known : List ℕ → Bool
@@ -42,4 +37,5 @@ begins_known (b ∷ bytes) = is_letter b
 
 -- a stream spells some orders, and then comes a letter that no order has
 abbrev pub IsStopped : List ℕ → Type 0
-IsStopped stream = (calls : List Call) × ((rest : List ℕ) × (Leaves stream calls rest × (begins_known rest ≡ false)))
+IsStopped stream =
+    (calls : List Call) × ((rest : List ℕ) × (Leaves stream calls rest × (begins_known rest ≡ false)))

@@ -1,6 +1,6 @@
 -- What the console prints of a stream of orders, on a pile of article books with these answers.
-use Rattle.std.specs.Prelude.{◌≡◌, ℕ, Bool, true, false, List, [], ◌++◌, map, reverse, codes, All, Option, IfSome}
-use Rattle.std.specs.Io.KnownBytes.{Appends}
+use Rattle.std.specs.Prelude.{◌≡◌, ℕ, List, [], ◌∷◌, ◌++◌, map, reverse, codes, All}
+use Rattle.std.specs.List.{concat}
 use Rattle.rebar.specs.declared.beam.Beam.{Beam}
 use Rattle.rebar.specs.declared.cage.Cage.{Cage}
 use Rattle.search.specs.declared.decision.Choice.{Choice}
@@ -15,51 +15,55 @@ use Rattle.sheet.specs.Law.{call_of, calls_of, AllAnswered, Lawful}
 use Rattle.bill.specs.Whole.{bill_text}
 use Rattle.console.specs.Bills.{lines_below}
 use Rattle.console.specs.Lines.{lines_text}
-use Rattle.console.specs.Orders.{Leaves, NoOrder, Spells}
+use Rattle.console.specs.Orders.{Leaves, NoOrder}
 
--- the line where the reading of a stream stops
-abbrev pub stop_text : Bool → List ℕ
-stop_text true = codes "STOP\n"
-stop_text false = []
+-- the line that tells of bytes which begin no order, where there are any
+abbrev pub stop_text : List ℕ → List ℕ
+stop_text [] = []
+stop_text (b ∷ bytes) = codes "STOP\n"
 
--- the lines of the calls that the stream spells, each with the answer that the calls before it determine, STOP where the reading
--- stopped, and the bill of the places that show a chosen cage after all calls
+-- a stream begins with the orders of these calls and no further one, and goes on with the rest; each call has the answer that
+-- the calls before it determine
+pub record Answered (pile : Beam → Cage → ℕ) (stream : List ℕ) (exchanges : List Exchange) (rest : List ℕ) : Type 0 where
+  pub whole : Leaves stream (map call_of exchanges) rest
+  pub unfinished : NoOrder rest
+  pub answered : AllAnswered pile (reverse exchanges)
+
+-- once these bytes have come, this has been printed: the lines of the orders that stand whole in them
+pub record IsPrintedSoFar (pile : Beam → Cage → ℕ) (stream out : List ℕ) : Type 0 where
+  pub exchanges : List Exchange
+  pub rest : List ℕ
+  pub orders : Answered pile stream exchanges rest
+  pub text : out ≡ lines_text exchanges
+
+-- of a whole stream this is printed: the lines of its orders, STOP where bytes are left, and the bill of the places that show a
+-- chosen cage after all of its calls
 pub record IsPrinted (pile : Beam → Cage → ℕ) (stream out : List ℕ) : Type 0 where
   pub exchanges : List Exchange
-  pub stopped : Bool
+  pub rest : List ℕ
   pub shown : ℕ → Shown
-  pub spelled : Spells stream (map call_of exchanges) stopped
-  pub answered : AllAnswered pile (reverse exchanges)
+  pub orders : Answered pile stream exchanges rest
   pub lawful : (p : ℕ) → Lawful pile (calls_of exchanges) p (shown p)
-  pub text : out ≡ lines_text exchanges ++ (stop_text stopped ++ bill_text (lines_below shown place_count))
+  pub text : out ≡ lines_text exchanges ++ (stop_text rest ++ bill_text (lines_below shown place_count))
 
 -- a line shows the lightest cage from stock that the pile passes for the beam at its place, with its own steel, after these calls
 abbrev pub IsLightestAfter : (Beam → Cage → ℕ) → List Call → ℕ × Choice → Type 0
-IsLightestAfter pile calls line = (b : Beam) × (IsBeamAfter calls line.0 b × Lightest pile (in_after calls) b (decision.Chosen line.1))
+IsLightestAfter pile calls line =
+    (b : Beam)
+    × (IsBeamAfter calls line.0 b × Lightest pile (in_after calls) b (decision.Chosen line.1))
 
 -- what is printed is so, and every line of its bill shows such a cage after the calls that the stream spells
 pub record ShowsLightest (pile : Beam → Cage → ℕ) (stream out : List ℕ) : Type 0 where
   pub printed : IsPrinted pile stream out
-  pub lightest : All (IsLightestAfter pile (calls_of printed.exchanges)) (lines_below printed.shown place_count)
+  pub lightest :
+      All (IsLightestAfter pile (calls_of printed.exchanges)) (lines_below printed.shown place_count)
 
--- once these bytes have come, this has been printed: the lines of the orders that stand whole in them, each with the answer that
--- the calls before it determine
-pub record IsPrintedSoFar (pile : Beam → Cage → ℕ) (stream out : List ℕ) : Type 0 where
-  pub exchanges : List Exchange
-  pub rest : List ℕ
-  pub whole : Leaves stream (map call_of exchanges) rest
-  pub unfinished : NoOrder rest
-  pub answered : AllAnswered pile (reverse exchanges)
-  pub text : out ≡ lines_text exchanges
+-- nothing but this text is printed of a stream
+abbrev pub IsOnlyText : (Beam → Cage → ℕ) → List ℕ → List ℕ → Type 0
+IsOnlyText pile stream text = (other : List ℕ) → IsPrinted pile stream other → other ≡ text
 
--- what is known of a sink grows by what is printed of these bytes: by that text and no other, and every line of its bill shows the
--- lightest cage
-pub record Prints (pile : Beam → Cage → ℕ) (stream : List ℕ) (old new : Option (List ℕ)) : Type 0 where
-  pub text : List ℕ
-  pub shows : ShowsLightest pile stream text
-  pub alone : (other : List ℕ) → IsPrinted pile stream other → other ≡ text
-  pub printed : Appends old new text
-
--- the same, where the bytes are known
-abbrev pub PrintsKnown : (Beam → Cage → ℕ) → Option (List ℕ) → Option (List ℕ) → Option (List ℕ) → Type 0
-PrintsKnown pile known old new = IfSome known (λ stream. Prints pile stream old new)
+-- whatever is printed of these bytes, however they are cut into pieces, is this text
+abbrev pub IsTextOfEveryCut : (Beam → Cage → ℕ) → List ℕ → List ℕ → Type 0
+IsTextOfEveryCut pile stream text =
+    (pieces : List (List ℕ)) (other : List ℕ) → concat pieces ≡ stream
+    → IsPrinted pile (concat pieces) other → other ≡ text

@@ -1,7 +1,6 @@
 -- That a stream has led to a console, with this text printed. A reader of what is promised needs none of this: opening a console
 -- begins it, each byte leads it on, and the end concludes without it.
-use Rattle.std.specs.Prelude.{◌≡◌, ℕ, Bool, true, false, List, [], ◌∷◌, ◌++◌, map, reverse, Some, None, Option, Result, IfSome, MatchBool}
-use Rattle.std.specs.Io.KnownBytes.{Appends}
+use Rattle.std.specs.Prelude.{◌≡◌, ℕ, Bool, true, false, List, [], ◌∷◌, ◌++◌, map, reverse, Some, None, Option, Result, MatchBool}
 use Rattle.arrayvec.specs.ArrayString.{ArrayString}
 use Rattle.rebar.specs.declared.beam.Beam.{Beam}
 use Rattle.rebar.specs.declared.cage.Cage.{Cage}
@@ -31,7 +30,8 @@ Holds false rest pending = rest ≡ pending
 Holds true rest pending = begins_known rest ≡ false
 
 -- a stream has led to a sheet's table and what is held of the next order, and this text was printed
-pub record Led (pile : Beam → Cage → ℕ) (stream text : List ℕ) (table : Table) (pending : List ℕ) (stopped : Bool) : Type 0 where
+pub record Led (pile : Beam → Cage → ℕ) (stream text : List ℕ) (table : Table) (pending : List ℕ) (stopped : Bool)
+    : Type 0 where
   pub exchanges : List Exchange
   pub rest : List ℕ
   pub whole : Leaves stream (map call_of exchanges) rest
@@ -42,7 +42,8 @@ pub record Led (pile : Beam → Cage → ℕ) (stream text : List ℕ) (table : 
 
 -- the same, of a console
 abbrev pub LedTo : {P : Type 0} → (Beam → Cage → ℕ) → List ℕ → List ℕ → Console P → Type 0
-LedTo pile stream text console = Led pile stream text console.sheet.table console.pending.items console.stopped
+LedTo pile stream text console =
+    Led pile stream text console.sheet.table console.pending.items console.stopped
 
 -- the text of a line, where there is one
 abbrev pub text_due : Option ArrayString → List ℕ
@@ -52,49 +53,39 @@ text_due (Some line) = line.bytes
 -- every stream that led to a console is led on by a byte, and every text by the line that is due
 unfoldable pub GoesOn : {P : Type 0} → (Beam → Cage → ℕ) → Console P → ℕ → Option ArrayString → Console P → Type 0
 GoesOn pile console byte line console' =
-    (stream text : List ℕ) → LedTo pile stream text console → LedTo pile (stream ++ byte ∷ []) (text ++ text_due line) console'
+    (stream text : List ℕ) → LedTo pile stream text console
+    → LedTo pile (stream ++ byte ∷ []) (text ++ text_due line) console'
 
 -- after every stream that led to a console, the lines of the orders that stand whole in the stream and this byte are printed
 unfoldable pub PrintsSoFar : {P : Type 0} → (Beam → Cage → ℕ) → Console P → ℕ → Option ArrayString → Type 0
 PrintsSoFar pile console byte line =
-    (stream text : List ℕ) → LedTo pile stream text console → IsPrintedSoFar pile (stream ++ byte ∷ []) (text ++ text_due line)
-
--- after every stream that led to a console, with this at the end the lines of its calls, STOP and the bill are printed
-unfoldable pub EndsPrinted : {P : Type 0} → (Beam → Cage → ℕ) → Console P → List ℕ → Type 0
-EndsPrinted pile console ending = (stream text : List ℕ) → LedTo pile stream text console → IsPrinted pile stream (text ++ ending)
-
--- and every line of the bill shows the lightest cage
-unfoldable pub EndsLightest : {P : Type 0} → (Beam → Cage → ℕ) → Console P → List ℕ → Type 0
-EndsLightest pile console ending = (stream text : List ℕ) → LedTo pile stream text console → ShowsLightest pile stream (text ++ ending)
-
--- and nothing else may be printed
-unfoldable pub EndsAlone : {P : Type 0} → (Beam → Cage → ℕ) → Console P → List ℕ → Type 0
-EndsAlone pile console ending =
-    (stream text other : List ℕ) → LedTo pile stream text console → IsPrinted pile stream other → other ≡ text ++ ending
+    (stream text : List ℕ) → LedTo pile stream text console
+    → IsPrintedSoFar pile (stream ++ byte ∷ []) (text ++ text_due line)
 
 -- and no other lines may be printed
 unfoldable pub PrintsAlone : {P : Type 0} → (Beam → Cage → ℕ) → Console P → ℕ → Option ArrayString → Type 0
 PrintsAlone pile console byte line =
-    (stream text other : List ℕ) → LedTo pile stream text console → IsPrintedSoFar pile (stream ++ byte ∷ []) other → other ≡ text ++ text_due line
+    (stream text other : List ℕ) → LedTo pile stream text console
+    → IsPrintedSoFar pile (stream ++ byte ∷ []) other → other ≡ text ++ text_due line
+
+-- after every stream that led to a console, with this at the end the lines of its calls, STOP and the bill are printed
+unfoldable pub EndsPrinted : {P : Type 0} → (Beam → Cage → ℕ) → Console P → List ℕ → Type 0
+EndsPrinted pile console ending =
+    (stream text : List ℕ) → LedTo pile stream text console → IsPrinted pile stream (text ++ ending)
+
+-- and every line of the bill shows the lightest cage
+unfoldable pub EndsLightest : {P : Type 0} → (Beam → Cage → ℕ) → Console P → List ℕ → Type 0
+EndsLightest pile console ending =
+    (stream text : List ℕ) → LedTo pile stream text console → ShowsLightest pile stream (text ++ ending)
+
+-- and nothing else may be printed
+unfoldable pub EndsAlone : {P : Type 0} → (Beam → Cage → ℕ) → Console P → List ℕ → Type 0
+EndsAlone pile console ending =
+    (stream text other : List ℕ) → LedTo pile stream text console → IsPrinted pile stream other
+    → other ≡ text ++ ending
 
 -- every stream that led to a console has come to a letter that no order has, or has not
 unfoldable pub TellsStop : {P : Type 0} → (Beam → Cage → ℕ) → Console P → Bool → Type 0
-TellsStop pile console stopped = (stream text : List ℕ) → LedTo pile stream text console → MatchBool stopped (IsStopped stream) (IsStopped stream → ⊥)
-
--- every stream that led to a console is led on by these bytes, every text by the lines that are due, and what is known of a sink
--- grows by the same lines
-unfoldable pub Continues : {P : Type 0} → (Beam → Cage → ℕ) → Console P → List ℕ → Option (List ℕ) → Console P → Option (List ℕ) → Type 0
-Continues pile console bytes old console' new =
+TellsStop pile console stopped =
     (stream text : List ℕ) → LedTo pile stream text console
-    → (more : List ℕ) × (LedTo pile (stream ++ bytes) (text ++ more) console' × Appends old new more)
-
--- a reader of known bytes has given a front of them, and a console was led on by that
-unfoldable pub ReadsOn : {P : Type 0} → (Beam → Cage → ℕ) → Option (List ℕ) → Console P → Option (List ℕ) → Option (List ℕ) → Console P → Option (List ℕ)
-    → Type 0
-ReadsOn pile known console old known' console' new =
-    IfSome known
-    (λ input. (front rest : List ℕ) × ((known' ≡ Some rest) × ((input ≡ front ++ rest) × Continues pile console front old console' new)))
-
--- of known bytes, a console was led on by all
-unfoldable pub ReadsAll : {P : Type 0} → (Beam → Cage → ℕ) → Option (List ℕ) → Console P → Option (List ℕ) → Console P → Option (List ℕ) → Type 0
-ReadsAll pile known console old console' new = IfSome known (λ input. Continues pile console input old console' new)
+    → MatchBool stopped (IsStopped stream) (IsStopped stream → ⊥)

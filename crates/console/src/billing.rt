@@ -2,7 +2,7 @@ ghost use Rattle.std.specs.Prelude.{◌≡◌, ◌+◌, ◌<◌, ◌≤◌, leng
 ghost use Rattle.bill.specs.Whole.{bill_text};
 ghost use Rattle.sheet.specs.Shown.{shown_at};
 ghost use Rattle.sheet.specs.Size.{place_count};
-ghost use Rattle.console.specs.Billing.{roomy, Billed};
+ghost use Rattle.console.specs.Billing.{Billed};
 ghost use Rattle.console.specs.Bills.{lines_below};
 
 use bill::bill::{Begun, Refused};
@@ -10,12 +10,12 @@ use books::book::Book;
 use sheet::reading::Shown;
 use sheet::sheet::Sheet;
 
-// A bill of 64 places fits on a page of this length: a head of 6 bytes, lines of 38 at most, and a total of 22 at most.
-pub(crate) const PAGE: usize = 2460;
+// A page of this length has room for a bill of 64 places: a head of 6 bytes, lines of 38 at most, and a total of 22 at most.
+pub(crate) const PAGE: usize = 6 + 64 * 38 + 22;
 
 // A bill of no line yet.
 fn begin<P: Book>(page: &mut [u8], sheet: &Sheet<P>) -> Begun
-    requires { length page.old ≡ roomy }
+    requires { length page.old ≡ PAGE }
     ensures { Billed (shown_at sheet.now) 0 page.new result }
 {
     let Ok(bill) = Begun::begin(page) else {
@@ -58,7 +58,7 @@ fn add_lines<P: Book>(begun: Begun, page: &mut [u8], sheet: &Sheet<P>) -> Begun
 fn total<P: Book>(bill: Begun, page: &mut [u8], sheet: &Sheet<P>) -> usize
     requires { Billed (shown_at sheet.now) place_count page.old bill }
     ensures text { take result page.new ≡ bill_text (lines_below (shown_at sheet.now) place_count) }
-    ensures fits { result ≤ roomy }
+    ensures fits { result ≤ PAGE }
 {
     match bill.total(page) {
         Ok(totalled) => totalled.written,
@@ -68,9 +68,9 @@ fn total<P: Book>(bill: Begun, page: &mut [u8], sheet: &Sheet<P>) -> usize
 
 // Writes the bill of the chosen places on the page, and says how many bytes it has.
 pub(crate) fn write_bill<P: Book>(page: &mut [u8], sheet: &Sheet<P>) -> usize
-    requires { length page.old ≡ roomy }
+    requires { length page.old ≡ PAGE }
     ensures text { take result page.new ≡ bill_text (lines_below (shown_at sheet.now) place_count) }
-    ensures fits { result ≤ roomy }
+    ensures fits { result ≤ PAGE }
 {
     let begun = begin(page, sheet);
     let lined = add_lines(begun, page, sheet);

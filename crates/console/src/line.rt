@@ -9,8 +9,11 @@ use sheet::call::{Answer, Call};
 use sheet::reading::Shown;
 use sheet::refusal::Refusal;
 
-// The line of an order: its letter, its place or mark, and what became of it.
-pub type Line = ArrayString<64>;
+/// The most bytes of a line: letter, place or mark, REFUSED, its number and a byte place of twenty digits.
+pub const LINE: usize = 39;
+
+/// The line of an order: its letter, its place or mark, and what became of it.
+pub type Line = ArrayString<LINE>;
 
 // What became of an order that was not refused.
 #[derive(Clone, Copy, Debug, PartialEq, Eq)]
@@ -59,7 +62,7 @@ fn outcome_of(answer: Result<Answer, Refusal>) -> Result<Outcome, Refusal>
 
 // Adds a number, with no leading zero.
 fn push_number<I: Integer>(line: &mut Line, n: I)
-    requires { array_string_len line.old + I.MAX_STR_LEN ≤ 64 }
+    requires { array_string_len line.old + I.MAX_STR_LEN ≤ LINE }
     ensures text { line.new.bytes ≡ line.old.bytes ++ I.text n }
     ensures len { array_string_len line.new ≤ array_string_len line.old + I.MAX_STR_LEN }
 {
@@ -69,7 +72,7 @@ fn push_number<I: Integer>(line: &mut Line, n: I)
 
 // Adds what became of an order, up to the line's end.
 fn push_outcome(line: &mut Line, outcome: Result<Outcome, Refusal>)
-    requires { array_string_len line.old + 33 ≤ 64 }
+    requires { array_string_len line.old + 33 ≤ LINE }
     ensures { line.new.bytes ≡ line.old.bytes ++ outcome_text outcome }
 {
     match outcome {

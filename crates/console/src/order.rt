@@ -3,6 +3,9 @@ ghost use Rattle.console.specs.Orders.{Begins, NoOrder, is_letter, begins_known}
 
 use sheet::call::Call;
 
+// The longest order: a letter, a place, a length, and a card of 255 bytes.
+pub(crate) const LONGEST_ORDER: usize = 258;
+
 // Whether an order begins with this letter.
 pub(crate) fn is_letter(letter: u8) -> bool
     ensures { result ≡ is_letter letter }
@@ -11,10 +14,10 @@ pub(crate) fn is_letter(letter: u8) -> bool
 }
 
 // The call of the first order of a stream, and what follows the order; none where the letter is unknown or the order is cut.
-// The numbers of the call are the stream's bytes, whatever they are. An order has at most 258 bytes.
+// The numbers of the call are the stream's bytes, whatever they are.
 pub(crate) fn next_call(stream: &[u8]) -> Option<(Call<'_>, &[u8])>
     ensures first_order { MatchOption result (NoOrder stream.now) (λ x. Begins stream.now x.0 x.1.now) }
-    ensures short { IfNone result (begins_known stream.now ≡ true → length stream.now < 258) }
+    ensures cut_before_the_longest { IfNone result (begins_known stream.now ≡ true → length stream.now < LONGEST_ORDER) }
 {
     match stream {
         [b'S', kind, mark, value, rest @ ..] => {

@@ -1,11 +1,35 @@
-ghost use Rattle.std.specs.Prelude.{◌≡◌, ℕ, ◌+◌, ◌*◌, ◌≤◌, List, ◌++◌, length, take};
+ghost use Rattle.std.specs.Prelude.{◌≡◌, ◌+◌, ◌*◌, ◌≤◌, ◌<◌, ◌++◌, ◌↔◌, length, take, drop};
+ghost use Rattle.std.specs.Prelude.{[], IsTrue, IsErr, IfOk, OnErr, Some};
 ghost use Rattle.bill.specs.Text.{put};
-ghost use Rattle.console.specs.Printed.{IsPrinted, ShowsLightest};
+ghost use Rattle.console.specs.Printed.{IsPrinted, ShowsLightest, IsOnlyText, IsTextOfEveryCut};
 ghost use Rattle.console.specs.Streams.{text_due};
+ghost use Rattle.console.specs.Sinks.{joined, Continues, Prints};
 
-use crate::console::Console;
-use crate::line::Line;
+use crate::console::{Console, ENDING};
+use crate::line::{LINE, Line};
 use books::book::Book;
+
+/// The page is too short for every answer that a stream of so many bytes can get: it wants `LINE` bytes for each of them, and
+/// `ENDING` more.
+#[derive(Clone, Copy, Debug, PartialEq, Eq)]
+pub struct PageTooShort;
+
+// Whether a page of this length has room for every answer to the pieces.
+fn has_room(page: usize, pieces: &[&[u8]]) -> bool
+    ensures { IsTrue result ↔ (LINE * length (joined pieces.now) + ENDING ≤ page) }
+{
+    let Some(lines) = page.checked_sub(ENDING) else {
+        return false;
+    };
+    let mut left = lines / LINE;
+    for piece in pieces {
+        let Some(less) = left.checked_sub(piece.len()) else {
+            return false;
+        };
+        left = less;
+    }
+    true
+}
 
 // Puts more bytes on a page after the first `written`.
 fn write_over(page: &mut [u8], written: usize, more: &[u8])
@@ -20,6 +44,7 @@ fn write_over(page: &mut [u8], written: usize, more: &[u8])
 fn put(page: &mut [u8], written: usize, more: &[u8]) -> usize
     requires { written + length more.now ≤ length page.old }
     ensures text { take result page.new ≡ take written page.old ++ more.now }
+    ensures rest { drop result page.new ≡ drop result page.old }
     ensures count { result ≡ written + length more.now }
 {
     write_over(page, written, more);
@@ -28,9 +53,10 @@ fn put(page: &mut [u8], written: usize, more: &[u8]) -> usize
 
 // Puts the line that is due on a page, where one is.
 fn put_line(page: &mut [u8], written: usize, due: Option<Line>) -> usize
-    requires { written + 64 ≤ length page.old }
+    requires { written + LINE ≤ length page.old }
     ensures text { take result page.new ≡ take written page.old ++ text_due due }
-    ensures count { result ≤ written + 64 }
+    ensures rest { drop result page.new ≡ drop result page.old }
+    ensures at_most_a_line { (written ≤ result) × (result ≤ written + LINE) }
 {
     match due {
         Some(line) => put(page, written, line.as_str().as_bytes()),
@@ -38,17 +64,60 @@ fn put_line(page: &mut [u8], written: usize, due: Option<Line>) -> usize
     }
 }
 
-// Answers a stream that is there whole, on a page that is long enough for every answer, and says how many bytes of it they are.
-pub fn answer_on_page<P: Book + Drop>(pile: P, stream: &[u8], page: &mut [u8]) -> usize
-    requires { 64 * length stream.now + 2465 ≤ length page.old }
-    ensures fits { result ≤ length page.old }
-    ensures lines_and_bill { ShowsLightest (P.Book.answer pile) stream.now (take result page.new) }
-    ensures nothing_else_is_printed { (other : List ℕ) → IsPrinted (P.Book.answer pile) stream.now other → other ≡ take result page.new }
+// Takes a piece of a stream, and puts the lines that are due on a page.
+fn put_piece<P: Book>(
+    page: &mut [u8],
+    written: usize,
+    console: &mut Console<P>,
+    piece: &[u8],
+) -> usize
+    requires { written + LINE * length piece.now ≤ length page.old }
+    ensures keeps_the_pile { console.new.sheet.pile ≡ console.old.sheet.pile }
+    ensures lines_due { Continues (P.Book.answer console.old.sheet.pile) console.old piece.now (Some (take written page.old))
+        console.new (Some (take result page.new)) }
+    ensures rest { drop result page.new ≡ drop result page.old }
+    ensures at_most_a_line_for_each_byte { (written ≤ result) × (result ≤ written + LINE * length piece.now) }
+{
+    let mut end = written;
+    for byte in piece {
+        end = put_line(page, end, console.take(*byte));
+    }
+    end
+}
+
+// Puts the lines and the bill of a stream on a page that has room for them, and says how many bytes they are.
+fn put_answers<P: Book + Drop>(pile: P, pieces: &[&[u8]], page: &mut [u8]) -> usize
+    requires { LINE * length (joined pieces.now) + ENDING ≤ length page.old }
+    ensures prints { Prints (P.Book.answer pile) (joined pieces.now) (Some []) (Some (take result page.new)) }
+    ensures rest { drop result page.new ≡ drop result page.old }
+    ensures within { result ≤ length page.old }
 {
     let mut console = Console::open(pile);
     let mut written = 0;
-    for byte in stream {
-        written = put_line(page, written, console.take(*byte));
+    for piece in pieces {
+        written = put_piece(page, written, &mut console, piece);
     }
     put(page, written, console.end().as_slice())
+}
+
+/// Answers a stream that is there whole, in one piece or in several, on a page: the line of each order, and the bill. Says how
+/// many bytes of the page they are. A page that is too short is refused, and stays as it was.
+#[tactic(auto, using(crate::proofs::Pages::lightest))]
+pub fn answer_on_page<P: Book + Drop>(
+    pile: P,
+    pieces: &[&[u8]],
+    page: &mut [u8],
+) -> Result<usize, PageTooShort>
+    ensures refused_exactly_where_too_short { IsErr result ↔ (length page.old < LINE * length (joined pieces.now) + ENDING) }
+    ensures unchanged_where_refused { OnErr result (page.new ≡ page.old) }
+    ensures lines_and_bill { IfOk result (λ n. IsPrinted (P.Book.answer pile) (joined pieces.now) (take n page.new)) }
+    ensures printed_cages_are_sound_and_lightest { IfOk result (λ n. ShowsLightest (P.Book.answer pile) (joined pieces.now) (take n page.new)) }
+    ensures nothing_else_is_printed { IfOk result (λ n. IsOnlyText (P.Book.answer pile) (joined pieces.now) (take n page.new)) }
+    ensures pieces_do_not_matter { IfOk result (λ n. IsTextOfEveryCut (P.Book.answer pile) (joined pieces.now) (take n page.new)) }
+    ensures rest_of_the_page_unchanged { IfOk result (λ n. (n ≤ length page.old) × (drop n page.new ≡ drop n page.old)) }
+{
+    if !has_room(page.len(), pieces) {
+        return Err(PageTooShort);
+    }
+    Ok(put_answers(pile, pieces, page))
 }

@@ -1,7 +1,7 @@
 use Rattle.std.proofs.Common.{rules, ◌≡◌, ◌<◌, ℕ, take, length, refl, ap, ◌∙◌, subst}
-use Rattle.console.specs.Streams.{Continues}
+use Rattle.console.specs.Sinks.{Continues}
 use Rattle.console.proofs.Continuing.{reads_begin, reads_kept, reads_more, reads_end, reads_stop}
-use Rattle.console.proofs.printing.print_all.Goals as goal
+use Rattle.console.proofs.stream.print_all.Goals as goal
 
 pub loop-init : goal.loop-init
 loop-init g c =

@@ -1,6 +1,6 @@
 use Rattle.std.proofs.Common.{◌≡◌, take}
-use Rattle.console.specs.Streams.{Continues}
-use Rattle.console.proofs.printing.print_piece.Given as goal
+use Rattle.console.specs.Sinks.{Continues}
+use Rattle.console.proofs.stream.print_piece.Given as goal
 
 abbrev pub invariant-loop-byte : goal.invariant-loop-byte
 invariant-loop-byte g l =

@@ -1,8 +1,9 @@
 use Rattle.std.proofs.Common.{List, ℕ, ◌∙◌, subst}
 use Rattle.std.specs.Io.KnownBytes.{Appends}
-use Rattle.console.specs.Streams.{ReadsAll, EndsPrinted, EndsLightest, EndsAlone}
+use Rattle.console.specs.Streams.{EndsPrinted, EndsLightest, EndsAlone}
+use Rattle.console.specs.Sinks.{ReadsAll}
 use Rattle.console.proofs.Continuing.{prints, always}
-use Rattle.console.proofs.printing.answer_orders.Goals as goal
+use Rattle.console.proofs.stream.answer_orders.Goals as goal
 
 pub returns : goal.returns
 returns g c =

@@ -1,6 +1,6 @@
 use Rattle.std.proofs.Common.{◌≡◌}
-use Rattle.console.specs.Streams.{ReadsOn}
-use Rattle.console.proofs.printing.print_all.Given as goal
+use Rattle.console.specs.Sinks.{ReadsOn}
+use Rattle.console.proofs.stream.print_all.Given as goal
 
 abbrev pub invariant-loop : goal.invariant-loop
 invariant-loop g l =

@@ -1,8 +1,9 @@
 use Rattle.std.proofs.Common.{rules, List, ℕ, [], ◌∷◌, take, slice_index_or, refl, sym, ◌∙◌, subst}
 use Rattle.std.proofs.lemmas.List.{take_more}
-use Rattle.console.specs.Streams.{GoesOn, Continues}
+use Rattle.console.specs.Streams.{GoesOn}
+use Rattle.console.specs.Sinks.{Continues}
 use Rattle.console.proofs.Continuing.{stays, piece_more, byte}
-use Rattle.console.proofs.printing.print_piece.Goals as goal
+use Rattle.console.proofs.stream.print_piece.Goals as goal
 
 pub loop-byte-init : goal.loop-byte-init
 loop-byte-init g c = (refl, stays (g.P.Book.answer c.args.console.now.sheet.pile) c.args.console.now (g.W.Write.contents c.args.sink.now))

@@ -1,0 +1,11 @@
+use Rattle.std.proofs.Common.{◌≡◌, ◌*◌, ◌≤◌, [], length, take, drop, Some}
+use Rattle.console.specs.declared.line.TheConstants.{LINE}
+use Rattle.console.specs.Sinks.{joined, Continues}
+use Rattle.console.proofs.page.put_answers.Given as goal
+
+abbrev pub invariant-loop-piece : goal.invariant-loop-piece
+invariant-loop-piece g l =
+    (l.console.sheet.pile ≡ l.initial.console.sheet.pile) × (l.written ≤ LINE * length (joined (take l.piece-index l.pieces)))
+    × (drop l.written l.page ≡ drop l.written l.initial.page)
+    × Continues (g.P.Book.answer l.initial.console.sheet.pile) l.initial.console (joined (take l.piece-index l.pieces)) (Some []) l.console
+    (Some (take l.written l.page))
