@@ -1,5 +1,6 @@
 #!/usr/bin/env python3
-"""Writes crates/round/stdin and crates/round/stdout: streams of orders, and what the console has to print of each.
+"""Writes crates/round/stdin and crates/round/stdout: streams of orders, what the console has to print of each, and in how many
+ways of cutting them it has to print the same.
 
     python3 tools/round.py            writes both files
     python3 tools/round.py --check    ends with status 1 where a file would change
@@ -8,6 +9,7 @@ It follows docs/RULES.md and docs/FORMATS.md and knows nothing of the Rattle cod
 scenario has to print is also written out by hand beside its orders, and the two must agree.
 """
 import functools
+import pathlib
 
 from stored import store
 
@@ -393,9 +395,23 @@ def by_chance():
 for _ in range(60):
     streams.append(b"".join(by_chance() for _ in range(60)))
 
+
+# ---- the streams that are stored for other programs ----
+
+CRATES = pathlib.Path(__file__).resolve().parent.parent / "crates"
+streams += [(CRATES / crate / "stdin").read_bytes() for crate in ("cages", "haulage")]
+
+
 # ---- the files ----
 
+
+def cuts(stream):
+    """In how many ways a stream is cut: into two at every byte, and into pieces of 1, 2, 3, 7 and 4,096 bytes."""
+    return max(len(stream) - 1, 0) + 5
+
+
 stdin = b"".join(len(stream).to_bytes(2, "big") + stream for stream in streams)
-stdout = "".join(line + "\n" for stream in streams for line in answer(stream))
+answers = [*(line for stream in streams for line in answer(stream)), f"CUTS {sum(map(cuts, streams))}"]
+stdout = "".join(line + "\n" for line in answers)
 if __name__ == "__main__":
     store("round", stdin, stdout.encode(), f"{len(streams)} streams")

@@ -4,7 +4,7 @@
 
 use books::frame::Frame;
 use books::general::General;
-use console::printing::answer_orders;
+use console::stream::answer_orders;
 use std::io;
 
 fn main(rt: HostRuntime) -> io::Result<()> {

@@ -6,7 +6,7 @@ mod haulage; // the haulage layer, articles 71 and 72
 use crate::haulage::Haulage;
 use books::frame::Frame;
 use books::general::General;
-use console::printing::answer_orders;
+use console::stream::answer_orders;
 use std::io;
 
 fn main(rt: HostRuntime) -> io::Result<()> {
