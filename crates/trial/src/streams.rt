@@ -1,15 +1,36 @@
 use crate::reference::CARD;
 use books::frame::Frame;
 use books::general::General;
-use console::vector::answer_stream;
+use console::console::ENDING;
+use console::line::LINE;
+use console::page::{PageTooShort, answer_on_page};
+use console::stream::answer_orders;
 use std::alloc::AllocError;
+use std::io;
+use std::io::{ErrorKind, Read, Write};
 use std::process::Abort;
 use std::test::Fail;
 
-// Whether the console answers the stream with these bytes.
+// The pile of the program `cages`.
+const PILE: Frame<General> = Frame { below: General };
+
+// Whether the console writes these bytes on a page, however the stream is cut in two, and refuses a page with a byte less than
+// it wants.
 fn answers(rt: &(impl Abort + AllocGlobal), stream: &[u8], expected: &[u8]) -> Result<(), Fail> {
-    let out = answer_stream(rt.alloc(), Frame { below: General }, stream)?;
-    assert!(rt; out.as_slice() == expected);
+    let length = stream.len().saturating_mul(LINE).saturating_add(ENDING);
+    let mut page = vec![in rt.alloc(); 0; length]?;
+    for cut in 0..=stream.len() {
+        let (front, back) = stream.split_at(cut);
+        let written = answer_on_page(PILE, &[front, back], page.as_mut_slice());
+        let text = page
+            .as_slice()
+            .get(..written.map_err(|_| Fail::new("no room"))?);
+        assert!(rt; text == Some(expected), "cut at {cut}");
+    }
+    let mut short = vec![in rt.alloc(); 7; length.saturating_sub(1)]?;
+    let refused = answer_on_page(PILE, &[stream], short.as_mut_slice());
+    assert_eq!(rt; refused, Err(PageTooShort));
+    assert!(rt; short.as_slice().iter().all(|byte| *byte == 7));
     Ok(())
 }
 
@@ -107,4 +128,75 @@ fn ten_orders(rt: HostRuntime) -> Result<(), Fail> {
         b"S 5 OK\nS 3 OK\nE 7 OK\nD 7 CAGE\nE 8 REFUSED 8 4\nE 8 OK\nD 8 NONE 6\nK 8 OK\nD 8 CAGE\nX 7 OK\n\
           CAGES\n08 B 2#5 T 2#5 S #3@175 6718470\nTOTAL 1 6718470\n",
     )
+}
+
+// A reader that is interrupted once, gives some bytes, and then fails.
+#[derive(Drop)]
+struct BreaksOff<'a> {
+    interrupted: bool,
+    left: &'a [u8],
+}
+
+impl Read for BreaksOff<'_> {
+    fn read(&mut self, buf: &mut [u8]) -> io::Result<usize> {
+        if !self.interrupted {
+            self.interrupted = true;
+            return Err(io::Error::new(ErrorKind::Interrupted, "a signal came"));
+        }
+        if self.left.is_empty() {
+            return Err(io::Error::new(ErrorKind::BrokenPipe, "the line broke"));
+        }
+        let count = self.left.len().min(buf.len());
+        let (piece, left) = self.left.split_at(count);
+        buf[..count].copy_from_slice(piece);
+        self.left = left;
+        Ok(count)
+    }
+}
+
+#[test]
+fn reader_that_breaks_off(rt: HostRuntime) -> Result<(), Fail> {
+    let mut reader = BreaksOff {
+        interrupted: false,
+        left: b"S\x00\x05\x01S\x01",
+    };
+    let mut out = Vec::new(rt.alloc());
+    let ended = answer_orders(PILE, &mut reader, &mut out);
+    assert_eq!(rt;
+        ended.map_err(|error| error.kind()),
+        Err(ErrorKind::BrokenPipe)
+    );
+    assert_eq!(rt; out.as_slice(), b"S 5 OK\n".as_slice());
+    Ok(())
+}
+
+// A sink that takes some bytes, and then fails.
+#[derive(Drop)]
+struct Fills {
+    room: usize,
+}
+
+impl Write for Fills {
+    fn write(&mut self, buf: &[u8]) -> io::Result<usize> {
+        if self.room == 0 {
+            return Err(io::Error::new(ErrorKind::WriteZero, "the disk is full"));
+        }
+        let count = self.room.min(buf.len());
+        self.room -= count;
+        Ok(count)
+    }
+
+    fn flush(&mut self) -> io::Result<()> {
+        Ok(())
+    }
+}
+
+#[test]
+fn sink_that_fills(rt: HostRuntime) -> Result<(), Fail> {
+    for room in 0..52 {
+        let mut orders = b"S\x00\x05\x01S\x01\x03\x01X\x07R".as_slice();
+        let ended = answer_orders(PILE, &mut orders, &mut Fills { room });
+        assert_eq!(rt; ended.is_ok(), room == 51, "room {room}");
+    }
+    Ok(())
 }
