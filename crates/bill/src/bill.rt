@@ -1,4 +1,4 @@
-ghost use Rattle.std.specs.Prelude.{◌*◌, ◌≤◌};
+ghost use Rattle.std.specs.Prelude.{◌≡◌, ◌*◌, ◌≤◌};
 ghost use Rattle.bill.specs.Bill.{most_lines};
 
 use crate::refusal::Refusal;
@@ -21,8 +21,17 @@ pub struct Refused {
     pub refusal: Refusal,
 }
 
-// A bill with its total: it takes no more lines. It tells how many bytes of the page are the bill.
+// A bill with its total: the bytes written. It takes no more lines, and only `total` makes one.
 #[derive(Drop)]
 pub struct Totalled {
-    pub written: usize,
+    written: usize,
+}
+
+impl Totalled {
+    // How many bytes of the page are the bill.
+    pub fn written(&self) -> usize
+        ensures bytes_written { result ≡ self.now.written }
+    {
+        self.written
+    }
 }

@@ -5,7 +5,7 @@ ghost use Rattle.card.specs.Parts.{force_fault, forces_fault, ForceAt, ForcesAt}
 ghost use Rattle.card.specs.Reads.{LoadAs};
 
 use crate::fault::Fault;
-use crate::number::in_range;
+use crate::number::out_of_range;
 use loads::loads::{Case, Force};
 
 // N bytes of the rest, and where they begin.
@@ -45,7 +45,10 @@ impl Bytes<'_, 4> {
     {
         let Bytes { rest, at } = *self;
         let load = i32::from_be_bytes([rest[at], rest[at + 1], rest[at + 2], rest[at + 3]]);
-        in_range(load, is_moderate(load), at)
+        if !is_moderate(load) {
+            return Err(out_of_range(at));
+        }
+        Ok(load)
     }
 }
 

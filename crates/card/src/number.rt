@@ -1,21 +1,18 @@
-ghost use Rattle.std.specs.Prelude.{◌≡◌, ◌+◌, ◌^◌, ◌<◌, ◌≤◌, IsTrue, length};
-ghost use Rattle.card.specs.Faults.{Answers, range_fault};
+ghost use Rattle.std.specs.Prelude.{◌≡◌, ◌+◌, ◌^◌, ◌<◌, ◌≤◌, length};
+ghost use Rattle.card.specs.Faults.{fault};
+ghost use Rattle.card.specs.declared.fault.FaultKind.TheVariants.{OutOfRange};
 ghost use Rattle.card.specs.Layout.{map_bytes, layout};
 ghost use Rattle.card.specs.Reads.{NumberAs};
 
 use crate::fault::{Fault, FaultKind};
 use crate::layout::Field;
 
-// A number of a card where it is in range, else its fault. It begins at a byte of the rest; two bytes of map stand before that.
-pub(crate) fn in_range<T: Drop>(number: T, fine: bool, at: usize) -> Result<T, Fault>
+// The fault of a number that is out of its range. It begins at a byte of the rest; two bytes of map stand before that.
+pub(crate) fn out_of_range(at: usize) -> Fault
     requires { map_bytes + at < 2 ^ 64 }
-    ensures { Answers (range_fault fine at) (λ n. (n ≡ number) × IsTrue fine) result }
+    ensures { result ≡ fault OutOfRange (map_bytes + at) }
 {
-    if fine {
-        Ok(number)
-    } else {
-        Err(FaultKind::OutOfRange.at(2 + at))
-    }
+    FaultKind::OutOfRange.at(2 + at)
 }
 
 // The number of a field that begins at a byte of the rest, or its fault.
@@ -29,5 +26,8 @@ pub(crate) fn number(rest: &[u8], at: usize, field: Field, least_cover: u16) -> 
     } else {
         u16::from_be_bytes([rest[at], rest[at + 1]])
     };
-    in_range(number, field.allows(number, least_cover), at)
+    if !field.allows(number, least_cover) {
+        return Err(out_of_range(at));
+    }
+    Ok(number)
 }

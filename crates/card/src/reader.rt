@@ -16,7 +16,9 @@ fn read(card: &[u8], least_cover: u16) -> Result<Beam, Fault>
     requires { Within least_covers least_cover }
     ensures { CardByCover least_cover card.now result }
 {
-    Body::of(card, least_cover)?.beam()
+    let body = Body::of(card, least_cover)?;
+    let beam = body.beam()?;
+    Ok(beam)
 }
 
 // The beam of a card, or the card's first fault.
@@ -27,5 +29,6 @@ pub fn read_card(card: &[u8]) -> Result<Beam, Fault>
     ensures of_no_other_beam { OfNoOther card.now result }
     ensures first_bad_number { Judges card.now result }
 {
-    read(card, LEAST_COVER)
+    let beam = read(card, LEAST_COVER)?;
+    Ok(beam)
 }

@@ -61,7 +61,7 @@ fn total<P: Book>(bill: Begun, page: &mut [u8], sheet: &Sheet<P>) -> usize
     ensures fits { result ≤ PAGE }
 {
     match bill.total(page) {
-        Ok(totalled) => totalled.written,
+        Ok(totalled) => totalled.written(),
         Err(Refused { bill, refusal: _ }) => bill.tear(),
     }
 }

@@ -81,7 +81,7 @@ impl Bill {
         match self {
             Bill::None => 0,
             Bill::Begun(begun) => begun.written(),
-            Bill::Totalled(ended) => ended.written,
+            Bill::Totalled(ended) => ended.written(),
         }
     }
 
@@ -90,7 +90,7 @@ impl Bill {
         match self {
             Bill::None => 0,
             Bill::Begun(begun) => begun.tear(),
-            Bill::Totalled(ended) => ended.written,
+            Bill::Totalled(ended) => ended.written(),
         }
     }
 }

@@ -1,1 +1,2 @@
 pub mod Workshop
+pub mod Streams

@@ -1,8 +1,9 @@
-ghost use Rattle.std.specs.Prelude.{◌≡◌, ◌<◌, ◌++◌, length, drop, IfSome};
+ghost use Rattle.std.specs.Prelude.{◌<◌, length, IfSome, MatchOption};
+ghost use Rattle.round.specs.Streams.{IsCut, Begins};
 
 // The first stream of some bytes, after two bytes with its length, and what follows it; none where the bytes end before.
 pub(crate) fn next_stream(bytes: &[u8]) -> Option<(&[u8], &[u8])>
-    ensures split { IfSome result (λ x. drop 2 bytes.now ≡ x.0.now ++ x.1.now) }
+    ensures split { MatchOption result (IsCut bytes.now) (λ x. Begins bytes.now x.0.now x.1.now) }
     ensures shorter { IfSome result (λ x. length x.1.now < length bytes.now) }
 {
     match bytes {

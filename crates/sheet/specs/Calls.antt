@@ -1,5 +1,5 @@
 -- When a call is refused, and what it does to the table of a sheet when it is not.
-use Rattle.std.specs.Prelude.{◌≡◌, ℕ, ◌<◌, ◌≤◌, Bool, false, cond, ◌&&◌, ◌||◌, List, replicate, Some, None, Ok, Err, Option, Result, is_some, nat_lt, ◌==◌, ◌+◌}
+use Rattle.std.specs.Prelude.{◌≡◌, ℕ, ◌<◌, ◌≤◌, Bool, cond, ◌&&◌, ◌||◌, List, replicate, Some, None, Ok, Err, Option, Result, is_some, nat_lt, ◌==◌}
 use Rattle.rebar.specs.declared.beam.Beam.{Beam}
 use Rattle.rebar.specs.declared.cage.Cage.{Cage}
 use Rattle.card.specs.declared.fault.Fault.{Fault}

@@ -1,5 +1,5 @@
 -- What a list of calls, the newest first, has made of places, stock and count: in words of the calls alone.
-use Rattle.std.specs.Prelude.{◌≡◌, ℕ, suc, Bool, false, cond, not, ◌&&◌, List, [], ◌∷◌, Some, None, Ok, Option, is_some, is_none, ◌==◌, true, zero, ◌-◌, ◌+◌}
+use Rattle.std.specs.Prelude.{◌≡◌, ℕ, suc, Bool, false, cond, not, ◌&&◌, List, [], ◌∷◌, Some, None, Ok, Option, is_some, is_none, ◌==◌, true, zero}
 use Rattle.std.specs.Bool.{beq}
 use Rattle.std.specs.List.{list_any}
 use Rattle.rebar.specs.declared.beam.Beam.{Beam}

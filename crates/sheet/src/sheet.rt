@@ -49,7 +49,8 @@ impl<P: Book> Sheet<P> {
         if self.table.at(place).is_some() {
             return Err(Refusal::PlaceTaken);
         }
-        self.table.take(place, card)
+        self.table.take(place, card)?;
+        Ok(())
     }
 
     // Puts the beam of another card in the place of a beam.
@@ -63,7 +64,8 @@ impl<P: Book> Sheet<P> {
         if self.table.at(place).is_none() {
             return Err(Refusal::PlaceEmpty);
         }
-        self.table.take(place, card)
+        self.table.take(place, card)?;
+        Ok(())
     }
 
     // Takes the beam away from a place.

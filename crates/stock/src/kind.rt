@@ -1,8 +1,5 @@
-ghost use Rattle.std.specs.Prelude.{◌≡◌, ◌++◌, codes, decimal, Some};
+ghost use Rattle.std.specs.Prelude.{◌≡◌};
 ghost use Rattle.stock.specs.Kinds.{known, IsKindOf};
-
-use std::error::Error;
-use std::fmt;
 
 // What a bar mark is stocked for: the bars of a face, or ties.
 #[derive(Clone, Copy, Debug, PartialEq, Eq)]
@@ -43,14 +40,3 @@ impl TryFrom<u8> for Kind {
         }
     }
 }
-
-// What is said of such a number.
-impl fmt::Display for UnknownKind {
-    ghost output = { λ e. Some (codes "no kind of bar mark has the number " ++ decimal e.0) };
-
-    fn fmt<W: fmt::Write>(&self, f: &mut fmt::Formatter<W>) -> fmt::Result {
-        write!(f, "no kind of bar mark has the number {}", self.0)
-    }
-}
-
-impl Error for UnknownKind {}

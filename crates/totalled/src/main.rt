@@ -1,7 +1,8 @@
 // Makes a bill of one line with its total, begins another with the next line, and prints both.
 #![tactic(auto)]
 
-ghost use Rattle.std.specs.Prelude.{◌≤◌, length, IfOk};
+ghost use Rattle.std.specs.Prelude.{◌≡◌, ◌≤◌, length, IfOk};
+ghost use Rattle.totalled.specs.Written.{BillsAs};
 
 use bill::bill::{Begun, Refused};
 use bill::refusal::Refusal;
@@ -11,7 +12,9 @@ use sheet::reading::{Reading, Shown};
 use std::io::Write;
 
 // The refusal of a step whose bill is handed back, and then torn.
-fn torn(refused: Refused) -> Refusal {
+fn torn(refused: Refused) -> Refusal
+    ensures why { result ≡ refused.refusal }
+{
     let Refused { bill, refusal } = refused;
     bill.tear();
     refusal
@@ -24,12 +27,13 @@ fn write_bills(
     next: &mut [u8],
     reading: &Reading,
 ) -> Result<(usize, usize), Refusal>
-    ensures { IfOk result (λ written. (written.0 ≤ length page.new) × (written.1 ≤ length next.new)) }
+    ensures bills_on_the_pages_or_refused { BillsAs page.old next.old reading.now result page.new next.new }
+    ensures on_the_pages { IfOk result (λ written. (written.0 ≤ length page.new) × (written.1 ≤ length next.new)) }
 {
     let begun = Begun::begin(page)?;
     let lined = begun.line(page, reading).map_err(torn)?;
     let totalled = lined.total(page).map_err(torn)?;
-    let first = totalled.written;
+    let first = totalled.written();
     let another = Begun::begin(next)?;
     let lined = another.line(next, reading).map_err(torn)?;
     Ok((first, lined.tear()))

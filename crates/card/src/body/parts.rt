@@ -26,10 +26,10 @@ impl Body<'_> {
     fn field(&self, field: Field) -> Result<u16, Fault>
         ensures { FieldAs field self.now result }
     {
-        match self.map.place(field) {
-            Some(at) => number(self.rest, at, field, self.least_cover),
-            None => Ok(field.default()),
-        }
+        Ok(match self.map.place(field) {
+            Some(at) => number(self.rest, at, field, self.least_cover)?,
+            None => field.default(),
+        })
     }
 
     fn section(&self) -> Result<Section, Fault>
@@ -70,14 +70,14 @@ impl Body<'_> {
         ensures { Reads (λ _. case_fault case) (CaseIs case) self.now result }
     {
         let rest = self.rest;
-        match self.map.place(case) {
-            Some(at) => Bytes::<24> { rest, at }.forces(),
-            None => Ok(Case {
+        Ok(match self.map.place(case) {
+            Some(at) => Bytes::<24> { rest, at }.forces()?,
+            None => Case {
                 left: NO_FORCE,
                 mid: NO_FORCE,
                 right: NO_FORCE,
-            }),
-        }
+            },
+        })
     }
 
     fn loads(&self) -> Result<Loads, Fault>

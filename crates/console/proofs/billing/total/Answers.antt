@@ -4,6 +4,7 @@ use Rattle.console.proofs.billing.total.Goals as goal
 
 pub returns-in-Ok-clause-text : goal.returns-in-Ok-clause-text
 returns-in-Ok-clause-text g c =
+    rw c.written.ensures.bytes_written
     (ended_bill c.args.page.now c.total.new.page (shown_at c.args.sheet.now) c.total.auto.page c.args.bill c.in-Ok.totalled
     c.in-Ok.ensures.whole_bill_of_its_lines c.in-Ok.ensures.total_on_the_page_or_handed_back c.requires).0
 

@@ -1,0 +1,52 @@
+-- Texts put on a page one after the other stand there as one.
+use Rattle.std.proofs.Common.{◌≡◌, ℕ, ◌+◌, ◌≤◌, Bool, true, false, cond, List, ◌++◌, length, drop, nat_lt, Some, None, sym, refl, ap, ◌∙◌, arith, length-append, length-drop, append_assoc, ltb-false}
+use Rattle.std.proofs.Math.Seq.{take-append_seam, drop-append-add}
+use Rattle.std.proofs.lemmas.List.{drop-drop}
+use Rattle.std.proofs.lemmas.Option.{none-some}
+use Rattle.bill.specs.Text.{put}
+use Rattle.bill.specs.Steps.{short, Puts}
+use Rattle.bill.specs.declared.refusal.Refusal.TheVariants.{PageShort}
+
+put_more : (page a b : List ℕ) → put (put page 0 a) (length a) b ≡ put page 0 (a ++ b)
+put_more page a b =
+    rw
+    (take-append_seam a (drop (0 + length a) page), drop-append-add a (drop (0 + length a) page) (length b), drop-drop (length b) (0 + length a) page, append_assoc a b (drop (0 + length (a ++ b)) page))
+    (ap (λ (n : ℕ). a ++ (b ++ drop n page)) (rw (length-append a b) (omega arith)))
+
+-- a text that is not refused has room
+roomy : (page a : List ℕ) → short page 0 a ≡ None → 0 + length a ≤ length page
+roomy page a h = go (nat_lt (length page) (0 + length a)) refl
+  where
+    go : (v : Bool) → nat_lt (length page) (0 + length a) ≡ v → 0 + length a ≤ length page
+    go true e = absurd (none-some PageShort (sym h ∙ ap (λ (v : Bool). cond v (Some PageShort) None) e))
+    go false e = ltb-false (length page) (0 + length a) e
+
+length_put : (page a : List ℕ) → 0 + length a ≤ length page → length (put page 0 a) ≡ length page
+length_put page a h =
+    length-append a (drop (0 + length a) page) ∙ rw (length-drop (0 + length a) page) (omega (arith, h))
+
+-- more text has room on the page where all of it has
+short_more : (page a b : List ℕ) → short page 0 a ≡ None → short (put page 0 a) (length a) b ≡ short page 0 (a ++ b)
+short_more page a b h =
+    ap (λ (n : ℕ). cond (nat_lt n (length a + length b)) (Some PageShort) None) (length_put page a (roomy page a h))
+    ∙ ap (λ (n : ℕ). cond (nat_lt (length page) n) (Some PageShort) None) (rw (length-append a b) (omega arith))
+
+-- a text stands at the front of a page, w bytes of it; the other bytes are as they were
+pub record At (old new text : List ℕ) (w : ℕ) : Type 0 where
+  pub put : new ≡ put old 0 text
+  pub long : w ≡ length text
+  pub room : short old 0 text ≡ None
+
+pub at_first : (page page' a : List ℕ) (w : ℕ) → short page 0 a ≡ None → Puts page 0 a w page' → At page page' a w
+at_first page page' a w h p = record { put = p.0; long = omega (arith, p.1); room = h }
+
+module _ (page page' a b : List ℕ) (w : ℕ) (at : At page page' a w) where
+  same : short page' w b ≡ short page 0 (a ++ b)
+  same = rw (at.put, at.long) (short_more page a b at.room)
+
+  pub at_more : (page'' : List ℕ) (v : ℕ) → short page' w b ≡ None → Puts page' w b v page'' → At page page'' (a ++ b) v
+  at_more page'' v h p = record {
+    put = p.0 ∙ rw (at.put, at.long) (put_more page a b);
+    long = rw (length-append a b) (omega (arith, p.1, at.long));
+    room = sym same ∙ h;
+  }
