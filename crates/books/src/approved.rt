@@ -2,7 +2,7 @@ ghost use Rattle.std.specs.Prelude.{◌≡◌, ◌↔◌};
 ghost use Rattle.books.specs.Approved.{no_row, none_allows, approved_answer, NoneIsFor, OneAllows, NoneOfThemAllows};
 
 use crate::approved_row::ApprovedRow;
-use crate::book::Book;
+use crate::book::PlainBook;
 use rebar::beam::Beam;
 use rebar::cage::Cage;
 
@@ -12,7 +12,7 @@ pub struct Approved<'a> {
     pub rows: &'a [ApprovedRow],
 }
 
-impl Book for Approved<'_> {
+impl PlainBook for Approved<'_> {
     ghost answer = { λ book beam cage. approved_answer book.rows.now beam cage };
 
     fn check(&self, beam: &Beam, cage: &Cage) -> u8

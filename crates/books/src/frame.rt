@@ -118,6 +118,8 @@ fn ask_all(beam: &Beam, cage: &Cage) -> Result<(), Broken>
 impl<B: Book> Book for Frame<B> {
     ghost answer = { λ f beam cage. over (B.Book.answer f.below beam cage) (frame_answer beam cage) };
 
+    ghost refusal_told = { λ f beam cage. B.Book.refusal_told f.below beam cage };
+
     fn check(&self, beam: &Beam, cage: &Cage) -> u8
         ensures answers_its_meaning { result ≡ over (B.answer self.now.below beam.now cage.now) (frame_answer beam.now cage.now) }
         ensures lower_answer_comes_first { B.answer self.now.below beam.now cage.now ≢ 0 → result ≡ B.answer self.now.below beam.now cage.now }
@@ -133,6 +135,7 @@ impl<B: Book> Book for Frame<B> {
     // What the book below refuses at every spacing, the layer does.
     #[tactic(auto, using(crate::proofs::EverySpacing::passed_on))]
     fn refusal_at_every_spacing(&self, beam: &Beam, cage: &Cage) -> Option<u8>
+        ensures refusal_told_below { result ≡ B.refusal_told self.now.below beam.now cage.now }
         ensures refused_so_at_every_spacing { MatchOption result (Unit {0}) (AtEverySpacing (λ b c. over (B.answer self.now.below b c) (frame_answer b c)) beam.now cage.now) }
     {
         self.below.refusal_at_every_spacing(beam, cage)

@@ -69,6 +69,8 @@ fn ask_all(beam: &Beam, cage: &Cage) -> Result<(), Broken>
 impl Book for General {
     ghost answer = { λ _ beam cage. general_answer beam cage };
 
+    ghost refusal_told = { λ _ beam cage. refusal_of_bars beam cage };
+
     fn check(&self, beam: &Beam, cage: &Cage) -> u8
         ensures answers_its_meaning { result ≡ general_answer beam.now cage.now }
         ensures passes_exactly_when_every_article_holds { PassesExactly (articles_for beam.now cage.now) result }

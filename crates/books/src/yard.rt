@@ -55,6 +55,8 @@ impl<B> Yard<B> {
 impl<B: Book> Book for Yard<B> {
     ghost answer = { λ y beam cage. over (B.Book.answer y.below beam cage) (yard_answer y.most_bars y.least_spacing y.one_mark cage) };
 
+    ghost refusal_told = { λ y beam cage. B.Book.refusal_told y.below beam cage };
+
     fn check(&self, beam: &Beam, cage: &Cage) -> u8
         ensures answers_its_meaning { result ≡ over (B.answer self.now.below beam.now cage.now) (yard_answer self.now.most_bars self.now.least_spacing self.now.one_mark cage.now) }
         ensures lower_answer_comes_first { B.answer self.now.below beam.now cage.now ≢ 0 → result ≡ B.answer self.now.below beam.now cage.now }
@@ -70,6 +72,7 @@ impl<B: Book> Book for Yard<B> {
     // What the book below refuses at every spacing, the layer does.
     #[tactic(auto, using(crate::proofs::EverySpacing::passed_on))]
     fn refusal_at_every_spacing(&self, beam: &Beam, cage: &Cage) -> Option<u8>
+        ensures refusal_told_below { result ≡ B.refusal_told self.now.below beam.now cage.now }
         ensures refused_so_at_every_spacing { MatchOption result (Unit {0}) (AtEverySpacing (λ b c. over (B.answer self.now.below b c) (yard_answer self.now.most_bars self.now.least_spacing self.now.one_mark c)) beam.now cage.now) }
     {
         self.below.refusal_at_every_spacing(beam, cage)

@@ -19,6 +19,8 @@ pub(crate) struct Haulage<B> {
 impl<B: Book> Book for Haulage<B> {
     ghost answer = { λ layer beam cage. over (B.Book.answer layer.below beam cage) (haulage_answer layer.bed layer.lifts beam cage) };
 
+    ghost refusal_told = { λ layer beam cage. B.Book.refusal_told layer.below beam cage };
+
     fn check(&self, beam: &Beam, cage: &Cage) -> u8
         ensures answers_its_meaning { result ≡ over (B.answer self.now.below beam.now cage.now) (haulage_answer self.now.bed self.now.lifts beam.now cage.now) }
         ensures lower_answer_comes_first { B.answer self.now.below beam.now cage.now ≢ 0 → result ≡ B.answer self.now.below beam.now cage.now }
@@ -36,6 +38,7 @@ impl<B: Book> Book for Haulage<B> {
     // What the book below refuses at every spacing, the layer does.
     #[tactic(auto, using(books::proofs::EverySpacing::passed_on))]
     fn refusal_at_every_spacing(&self, beam: &Beam, cage: &Cage) -> Option<u8>
+        ensures refusal_told_below { result ≡ B.refusal_told self.now.below beam.now cage.now }
         ensures refused_so_at_every_spacing { MatchOption result (Unit {0}) (AtEverySpacing (λ b c. over (B.answer self.now.below b c) (haulage_answer self.now.bed self.now.lifts b c)) beam.now cage.now) }
     {
         self.below.refusal_at_every_spacing(beam, cage)

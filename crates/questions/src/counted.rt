@@ -20,6 +20,8 @@ impl<B> Counted<B> {
 impl<B: Book> Book for Counted<B> {
     ghost answer = { λ counted beam cage. B.Book.answer counted.below beam cage };
 
+    ghost refusal_told = { λ counted beam cage. B.Book.refusal_told counted.below beam cage };
+
     fn check(&self, beam: &Beam, cage: &Cage) -> u8 {
         self.count();
         self.below.check(beam, cage)

@@ -1,6 +1,6 @@
 ghost use Rattle.round.specs.Workshop.{workshop_answer};
 
-use books::book::Book;
+use books::book::PlainBook;
 use rebar::beam::Beam;
 use rebar::cage::Cage;
 
@@ -8,7 +8,7 @@ use rebar::cage::Cage;
 #[derive(Clone, Copy)]
 pub(crate) struct Workshop;
 
-impl Book for Workshop {
+impl PlainBook for Workshop {
     ghost answer = { λ _ beam cage. workshop_answer beam cage };
 
     fn check(&self, beam: &Beam, cage: &Cage) -> u8 {

@@ -4,7 +4,7 @@ ghost use Rattle.std.specs.Cmp.Lexicographic.{pointwise};
 ghost use Rattle.rebar.specs.Order.{numbers};
 
 use crate::reference::beam;
-use books::book::Book;
+use books::book::PlainBook;
 use books::frame::Frame;
 use books::general::General;
 use rebar::beam::Beam;
@@ -19,7 +19,7 @@ use stock::stock_mark::StockMark;
 // A book that answers every cage alike.
 struct Always(u8);
 
-impl Book for Always {
+impl PlainBook for Always {
     ghost answer = { λ book beam cage. book.0 };
 
     fn check(&self, _beam: &Beam, _cage: &Cage) -> u8 {
@@ -31,7 +31,7 @@ impl Book for Always {
 #[derive(Clone, Copy)]
 struct Only(Cage);
 
-impl Book for Only {
+impl PlainBook for Only {
     ghost answer = { λ book beam cage. cond (on numbers (pointwise nat_eq) book.0 cage) 0 1 };
 
     fn check(&self, _beam: &Beam, cage: &Cage) -> u8 {

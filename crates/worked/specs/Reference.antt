@@ -1,5 +1,5 @@
 -- The reference beam: 300 by 500 mm, cover 40, concrete 210, steel 4200, span 5,000, dead and live load.
-use Rattle.std.specs.Prelude.{◌≡◌, ℕ, Bool, true, T, nat_le, refl, ℤ, pos, negsuc, neg_ℤ}
+use Rattle.std.specs.Prelude.{◌≡◌, ℕ, Bool, true, false, T, nat_le, refl, List, [], ◌∷◌, ◌++◌, ℤ, pos, negsuc, neg_ℤ}
 use Rattle.std.proofs.Common.{lit≤}
 use lib.Signed.{le_z, le_z_yes}
 use Rattle.loads.specs.declared.loads.Force.{Force}
@@ -107,3 +107,32 @@ reference_beam in_frame =
       actions = reference_actions;
       factored = reference_factored;
     }
+
+-- width 300, height 500 and concrete 210, as a card has them
+abbrev pub section_bytes : List ℕ
+section_bytes = 0x01 ∷ 0x2c ∷ 0x01 ∷ 0xf4 ∷ 0x00 ∷ 0xd2 ∷ []
+
+-- span 5,000
+abbrev pub span_bytes : List ℕ
+span_bytes = 0x13 ∷ 0x88 ∷ []
+
+-- the dead load: moment and shear at each station
+abbrev pub dead_bytes : List ℕ
+dead_bytes =
+    0xff ∷ 0xff ∷ 0xf0 ∷ 0x60 ∷ 0x00 ∷ 0x00 ∷ 0x13 ∷ 0x88
+    ∷ 0x00 ∷ 0x00 ∷ 0x0b ∷ 0xb8 ∷ 0x00 ∷ 0x00 ∷ 0x00 ∷ 0x00
+    ∷ 0xff ∷ 0xff ∷ 0xf0 ∷ 0x60 ∷ 0xff ∷ 0xff ∷ 0xec ∷ 0x78
+    ∷ []
+
+-- the live load
+abbrev pub live_bytes : List ℕ
+live_bytes =
+    0xff ∷ 0xff ∷ 0xf4 ∷ 0x48 ∷ 0x00 ∷ 0x00 ∷ 0x0f ∷ 0xa0
+    ∷ 0x00 ∷ 0x00 ∷ 0x07 ∷ 0xd0 ∷ 0x00 ∷ 0x00 ∷ 0x00 ∷ 0x00
+    ∷ 0xff ∷ 0xff ∷ 0xf4 ∷ 0x48 ∷ 0xff ∷ 0xff ∷ 0xf0 ∷ 0x60
+    ∷ []
+
+-- the reference card, its map first; and that of the same beam in the frame, with one byte more
+abbrev pub reference_card : Bool → List ℕ
+reference_card false = 0x06 ∷ 0x8b ∷ section_bytes ++ span_bytes ++ dead_bytes ++ live_bytes
+reference_card true = 0x06 ∷ 0xcb ∷ section_bytes ++ 0x01 ∷ span_bytes ++ dead_bytes ++ live_bytes

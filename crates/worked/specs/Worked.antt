@@ -1,5 +1,5 @@
 -- The worked examples of the reference beam.
-use Rattle.std.specs.Prelude.{◌≡◌, ℕ, ◌%◌, Bool, true, false, cond, T, nat_le, refl, List, [], ◌∷◌, replicate}
+use Rattle.std.specs.Prelude.{◌≡◌, ℕ, ◌%◌, Bool, true, false, T, nat_le, refl, List, [], ◌∷◌, replicate, Ok}
 use Rattle.std.proofs.Common.{lit≤}
 use Rattle.loads.specs.declared.actions.Actions.{Actions}
 use Rattle.loads.specs.Actions.{ActionsOf}
@@ -9,19 +9,18 @@ use Rattle.rebar.specs.declared.cage.Ties.{Ties}
 use Rattle.rebar.specs.declared.cage.Cage.{Cage}
 use Rattle.rebar.specs.Ranges.{count, main_marks, tie_marks, bar_numbers, spacings, spacing_step}
 use Rattle.rebar.specs.Steel.{steel}
-use Rattle.books.specs.Rules.{first_broken, over}
+use Rattle.card.specs.Card.{CardAs}
+use Rattle.books.specs.Rules.{first_broken}
 use Rattle.books.specs.Articles.{general}
 use Rattle.books.specs.declared.frame.Frame.{Frame}
 use Rattle.books.specs.declared.general.General.{General}
 use Rattle.books.specs.Pile.{framed_answer}
-use Rattle.books.specs.General.{general_answer}
-use Rattle.books.specs.Frame.{frame, frame_answer}
 use Rattle.stock.specs.declared.kind.Kind.TheVariants.{Main, Tie}
 use Rattle.stock.specs.declared.stock.Stock.{Stock}
 use Rattle.stock.specs.Stock.{has, with_mark}
 use Rattle.search.specs.declared.decision.Decision.TheVariants.{Impossible}
 use Rattle.search.specs.Lightest.{Lightest}
-use Rattle.worked.specs.Reference.{reference_section, reference_materials, reference_member, reference_loads, actions_with, reference_actions, reference_beam}
+use Rattle.worked.specs.Reference.{reference_section, reference_materials, reference_member, reference_loads, actions_with, reference_actions, reference_beam, reference_card}
 
 -- so many bars of a mark
 abbrev pub bars : (n mark : ℕ) → T (nat_le bar_numbers.least n) → T (nat_le n bar_numbers.most) → T (nat_le main_marks.least mark) → T (nat_le mark main_marks.most) → Bars
@@ -47,53 +46,71 @@ four = bars 4 5 tt tt tt tt
 abbrev pub cage : Bars → Bars → Ties → Cage
 cage b t s = record { bottom = b; top = t; ties = s }
 
--- the reference beam in the frame or not, the actions put into the formulas, a cage, and the answer that is expected
+-- the reference beam in the frame or not, a cage, and the answer that is expected
 pub record Example : Type 0 where
   pub in_frame : Bool
-  pub actions : Actions
   pub cage : Cage
   pub answer : ℕ
 
--- an example of these four
-abbrev pub example : Bool → Actions → Cage → ℕ → Example
-example f a c n = record { in_frame = f; actions = a; cage = c; answer = n }
+-- an example of these three
+abbrev pub example : Bool → Cage → ℕ → Example
+example f c n = record { in_frame = f; cage = c; answer = n }
 
--- the ten answers: two with a bottom moment put in, two in the frame
+-- eight answers, two of them in the frame
 abbrev pub examples : List Example
 examples =
-    example false reference_actions (cage three four (ties_at 200 tt tt refl)) 0
-    ∷ example false reference_actions (cage three three (ties_at 200 tt tt refl)) 7
-    ∷ example false reference_actions (cage two four (ties_at 200 tt tt refl)) 6
-    ∷ example false reference_actions (cage three four (ties_at 225 tt tt refl)) 13
-    ∷ example false reference_actions (cage three four (ties_at 125 tt tt refl)) 13
-    ∷ example false reference_actions (cage three four (ties_at 150 tt tt refl)) 0
-    ∷ example false (actions_with 94573 tt) (cage three four (ties_at 200 tt tt refl)) 0
-    ∷ example false (actions_with 94574 tt) (cage three four (ties_at 200 tt tt refl)) 6
-    ∷ example true reference_actions (cage three four (ties_at 150 tt tt refl)) 26
-    ∷ example true reference_actions (cage three four (ties_at 100 tt tt refl)) 0
+    example false (cage three four (ties_at 200 tt tt refl)) 0
+    ∷ example false (cage three three (ties_at 200 tt tt refl)) 7
+    ∷ example false (cage two four (ties_at 200 tt tt refl)) 6
+    ∷ example false (cage three four (ties_at 225 tt tt refl)) 13
+    ∷ example false (cage three four (ties_at 125 tt tt refl)) 13
+    ∷ example false (cage three four (ties_at 150 tt tt refl)) 0
+    ∷ example true (cage three four (ties_at 150 tt tt refl)) 26
+    ∷ example true (cage three four (ties_at 100 tt tt refl)) 0
     ∷ []
 
--- what the articles of the general book answer, and after them those of the frame layer
-abbrev pub told : Example → ℕ
-told e =
-    let member = reference_member e.in_frame in
-    over (first_broken (general reference_section reference_materials member e.actions e.cage))
-    (cond e.in_frame (first_broken (frame reference_section reference_materials member e.actions e.cage)) 0)
+-- each is what a pile answers
+abbrev pub EveryAnswered : (Beam → Cage → ℕ) → List Example → Type 0
+EveryAnswered answer [] = Unit {0}
+EveryAnswered answer (e ∷ es) = (answer (reference_beam e.in_frame) e.cage ≡ e.answer) × EveryAnswered answer es
 
--- each answer is the expected one
-abbrev pub EveryTold : List Example → Type 0
-EveryTold [] = Unit {0}
-EveryTold (e ∷ es) = (told e ≡ e.answer) × EveryTold es
+-- actions with a bottom moment put in, and the answer that is expected
+pub record MomentExample : Type 0 where
+  pub actions : Actions
+  pub answer : ℕ
+
+-- an example of these two
+abbrev pub moment_example : Actions → ℕ → MomentExample
+moment_example a n = record { actions = a; answer = n }
+
+-- the greatest moment that three bottom bars bear, and the next
+abbrev pub moment_examples : List MomentExample
+moment_examples = moment_example (actions_with 94573 tt) 0 ∷ moment_example (actions_with 94574 tt) 6 ∷ []
+
+-- the first broken article of the general book, for a cage in the reference beam under these actions
+abbrev pub answer_under : Actions → ℕ
+answer_under a =
+    first_broken
+    (general reference_section reference_materials (reference_member false) a (cage three four (ties_at 200 tt tt refl)))
+
+-- each is the number of the first broken article
+abbrev pub EveryMomentAnswered : List MomentExample → Type 0
+EveryMomentAnswered [] = Unit {0}
+EveryMomentAnswered (e ∷ es) = (answer_under e.actions ≡ e.answer) × EveryMomentAnswered es
 
 -- main mark 11 and tie mark 3 alone
 abbrev pub main_11_tie_3 : Stock
 main_11_tie_3 = with_mark (with_mark (record { main = replicate (count main_marks) false; tie = replicate (count tie_marks) false }) Main 11 true) Tie 3 true
 
--- the actions of the loads, the answers, the steel of two cages, and that main mark 11 makes the beam impossible with 4
--- on the frame layer over the general book
+-- the worked examples; the pile is the frame layer over the general book
 pub record WorkedExamples : Type 0 where
+  -- each card describes this very beam
+  pub cards : (in_frame : Bool) → CardAs (reference_card in_frame) (Ok (reference_beam in_frame))
   pub actions : ActionsOf reference_loads reference_actions
-  pub answers : EveryTold examples
+  pub answers : (pile : Frame General) → EveryAnswered (framed_answer pile) examples
+  -- three bottom bars bear a moment of 94,573, and no more
+  pub answers_to_moments : EveryMomentAnswered moment_examples
   pub steel_of_the_cage : steel (reference_beam false) (cage three four (ties_at 200 tt tt refl)) ≡ 9604780
   pub steel_in_the_frame : steel (reference_beam true) (cage three four (ties_at 100 tt tt refl)) ≡ 12041500
+  -- main mark 11 makes the beam impossible with 4
   pub impossible : (pile : Frame General) (in_frame : Bool) → Lightest (framed_answer pile) (has main_11_tie_3) (reference_beam in_frame) (Impossible 4)
