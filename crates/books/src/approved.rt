@@ -2,7 +2,7 @@ ghost use Rattle.std.specs.Prelude.{◌≡◌, ◌↔◌};
 ghost use Rattle.books.specs.Approved.{no_row, none_allows, approved_answer, NoneIsFor, OneAllows, NoneOfThemAllows};
 
 use crate::approved_row::ApprovedRow;
-use crate::book::PlainBook;
+use crate::book::Book;
 use rebar::beam::Beam;
 use rebar::cage::Cage;
 
@@ -12,7 +12,7 @@ pub struct Approved<'a> {
     pub rows: &'a [ApprovedRow],
 }
 
-impl PlainBook for Approved<'_> {
+impl Book for Approved<'_> {
     ghost answer = { λ book beam cage. approved_answer book.rows.now beam cage };
 
     fn check(&self, beam: &Beam, cage: &Cage) -> u8
@@ -31,5 +31,9 @@ impl PlainBook for Approved<'_> {
             }
         }
         if is_known { 61 } else { 60 }
+    }
+
+    fn refusal_at_every_spacing(&self, _beam: &Beam, _cage: &Cage) -> Option<u8> {
+        None
     }
 }

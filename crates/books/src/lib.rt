@@ -4,7 +4,7 @@
 pub mod approved; // the book of approved rows, articles 60 and 61
 pub mod approved_row; // one approved cage
 mod article; // an article that does not hold, and how articles are asked
-pub mod book; // the traits of article books
+pub mod book; // the trait of article books
 mod face; // rows, depths and force of a face's bars
 mod flexure; // what a face bears in bending, and its least steel
 pub mod frame; // the frame layer, articles 21 to 28

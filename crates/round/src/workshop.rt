@@ -1,6 +1,6 @@
 ghost use Rattle.round.specs.Workshop.{workshop_answer};
 
-use books::book::PlainBook;
+use books::book::Book;
 use rebar::beam::Beam;
 use rebar::cage::Cage;
 
@@ -8,7 +8,7 @@ use rebar::cage::Cage;
 #[derive(Clone, Copy)]
 pub(crate) struct Workshop;
 
-impl PlainBook for Workshop {
+impl Book for Workshop {
     ghost answer = { λ _ beam cage. workshop_answer beam cage };
 
     fn check(&self, beam: &Beam, cage: &Cage) -> u8 {
@@ -23,5 +23,9 @@ impl PlainBook for Workshop {
         } else {
             0
         }
+    }
+
+    fn refusal_at_every_spacing(&self, _beam: &Beam, _cage: &Cage) -> Option<u8> {
+        None
     }
 }

@@ -4,7 +4,7 @@ ghost use Rattle.std.specs.Cmp.Lexicographic.{pointwise};
 ghost use Rattle.rebar.specs.Order.{numbers};
 
 use crate::reference::beam;
-use books::book::PlainBook;
+use books::book::Book;
 use books::frame::Frame;
 use books::general::General;
 use rebar::beam::Beam;
@@ -19,11 +19,15 @@ use stock::stock_mark::StockMark;
 // A book that answers every cage alike.
 struct Always(u8);
 
-impl PlainBook for Always {
+impl Book for Always {
     ghost answer = { λ book beam cage. book.0 };
 
     fn check(&self, _beam: &Beam, _cage: &Cage) -> u8 {
         self.0
+    }
+
+    fn refusal_at_every_spacing(&self, _beam: &Beam, _cage: &Cage) -> Option<u8> {
+        None
     }
 }
 
@@ -31,11 +35,15 @@ impl PlainBook for Always {
 #[derive(Clone, Copy)]
 struct Only(Cage);
 
-impl PlainBook for Only {
+impl Book for Only {
     ghost answer = { λ book beam cage. cond (on numbers (pointwise nat_eq) book.0 cage) 0 1 };
 
     fn check(&self, _beam: &Beam, cage: &Cage) -> u8 {
         if self.0.is_same(cage) { 0 } else { 1 }
+    }
+
+    fn refusal_at_every_spacing(&self, _beam: &Beam, _cage: &Cage) -> Option<u8> {
+        None
     }
 }
 

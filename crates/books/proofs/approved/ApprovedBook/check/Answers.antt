@@ -2,8 +2,8 @@ use Rattle.std.proofs.Common.{rules, ◌≡◌, ◌∙◌, true, sym, subst, ap,
 use Rattle.std.proofs.lemmas.List.{take_all}
 use Rattle.books.specs.Approved.{IsFor, Allows}
 use Rattle.books.proofs.Rows.{told, At, Seen, passed_over, refused, found, ended}
-use Rattle.books.proofs.approved.ApprovedPlainBook.check.Goals as goal
-use Rattle.books.proofs.approved.ApprovedPlainBook.check.Goals.{then-is_for+else-allows, else-is_for}
+use Rattle.books.proofs.approved.ApprovedBook.check.Goals as goal
+use Rattle.books.proofs.approved.ApprovedBook.check.Goals.{then-is_for+else-allows, else-is_for}
 
 pub loop-row-preserved : goal.loop-row-preserved
 loop-row-preserved c =
