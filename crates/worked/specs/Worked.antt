@@ -72,7 +72,8 @@ examples =
 -- each is what a pile answers
 abbrev pub EveryAnswered : (Beam → Cage → ℕ) → List Example → Type 0
 EveryAnswered answer [] = Unit {0}
-EveryAnswered answer (e ∷ es) = (answer (reference_beam e.in_frame) e.cage ≡ e.answer) × EveryAnswered answer es
+EveryAnswered answer (e ∷ es) =
+    (answer (reference_beam e.in_frame) e.cage ≡ e.answer) × EveryAnswered answer es
 
 -- actions with a bottom moment put in, and the answer that is expected
 pub record MomentExample : Type 0 where
@@ -85,13 +86,16 @@ moment_example a n = record { actions = a; answer = n }
 
 -- the greatest moment that three bottom bars bear, and the next
 abbrev pub moment_examples : List MomentExample
-moment_examples = moment_example (actions_with 94573 tt) 0 ∷ moment_example (actions_with 94574 tt) 6 ∷ []
+moment_examples =
+    moment_example (actions_with 94573 tt) 0
+    ∷ moment_example (actions_with 94574 tt) 6
+    ∷ []
 
--- the first broken article of the general book, for a cage in the reference beam under these actions
+-- the first broken article of the general book, for a cage in the beam under these actions
 abbrev pub answer_under : Actions → ℕ
 answer_under a =
-    first_broken
-    (general reference_section reference_materials (reference_member false) a (cage three four (ties_at 200 tt tt refl)))
+    let c : Cage = cage three four (ties_at 200 tt tt refl) in
+    first_broken (general reference_section reference_materials (reference_member false) a c)
 
 -- each is the number of the first broken article
 abbrev pub EveryMomentAnswered : List MomentExample → Type 0
