@@ -3,7 +3,7 @@ ghost use Rattle.sheet.specs.Calls.{Makes, Reads, refusal, done, shows};
 ghost use Rattle.sheet.specs.declared.call.Call.TheVariants as call;
 ghost use Rattle.sheet.specs.Law.{call_of, calls_of, AllAnswered, Lawful};
 ghost use Rattle.sheet.specs.declared.reading.Shown.{Shown};
-ghost use Rattle.sheet.specs.Runs.{Run, AnswersLawfully};
+ghost use Rattle.sheet.specs.Runs.{Run, Grows, AnswersLawfully};
 ghost use Rattle.sheet.specs.Shown.{shown_at};
 
 use crate::call::{Answer, Call, Exchange};
@@ -38,11 +38,12 @@ impl<P: Book> Sheet<P> {
         self.read(place)
     }
 
-    // Makes a call, whichever it is.
-    #[tactic(auto, using(crate::proofs::Answering::done_made, crate::proofs::Answering::read_made, crate::proofs::Answering::done_lawfully, crate::proofs::Answering::shown_lawfully, crate::proofs::Answering::design_made, crate::proofs::Answering::designed_lawfully, crate::proofs::Answering::counted_lawfully))]
+    // Makes a call, whichever it is, and answers it: a design order with what its place then shows.
+    #[tactic(auto, using(crate::proofs::Runs::grows, crate::proofs::Answering::done_made, crate::proofs::Answering::read_made, crate::proofs::Answering::done_lawfully, crate::proofs::Answering::shown_lawfully, crate::proofs::Answering::design_made, crate::proofs::Answering::designed_lawfully, crate::proofs::Answering::counted_lawfully))]
     pub fn make(&mut self, call: &Call) -> Result<Answer, Refusal>
         ensures keeps_the_pile { self.new.pile ≡ self.old.pile }
         ensures as_the_call { Makes (P.Book.answer self.old.pile) self.old.table call.now (refusal result) self.new.table }
+        ensures history_grows_by_this_call { Grows (P.Book.answer self.old.pile) self.old.table call.now (refusal result) self.new.table }
         ensures as_the_calls_before_determine { AnswersLawfully (P.Book.answer self.old.pile) self.old.table call.now result }
     {
         match *call {
