@@ -1,3 +1,6 @@
+ghost use Rattle.std.specs.Prelude.{◌≡◌, []};
+ghost use Rattle.pages.specs.Steps.{taken, handed_back, Begins, AddsLine, AddsTotal, written_of, Stands, Keeps, added};
+
 use bill::bill::{Begun, Refused, Totalled};
 use bill::refusal::Refusal;
 use sheet::reading::Reading;
@@ -17,14 +20,18 @@ pub(crate) struct Stepped {
 
 impl Stepped {
     // The bill that the step left.
-    pub(crate) fn left(self) -> Bill {
+    pub(crate) fn left(self) -> Bill
+        ensures { result ≡ self.bill }
+    {
         let Stepped { bill, refusal: _ } = self;
         bill
     }
 }
 
 // A step that was taken.
-fn taken(bill: Bill) -> Stepped {
+fn taken(bill: Bill) -> Stepped
+    ensures { result ≡ taken bill }
+{
     Stepped {
         bill,
         refusal: None,
@@ -32,7 +39,9 @@ fn taken(bill: Bill) -> Stepped {
 }
 
 // A step whose bill is handed back.
-fn handed_back(refused: Refused) -> Stepped {
+fn handed_back(refused: Refused) -> Stepped
+    ensures { result ≡ handed_back refused }
+{
     let Refused { bill, refusal } = refused;
     Stepped {
         bill: Bill::Begun(bill),
@@ -41,7 +50,10 @@ fn handed_back(refused: Refused) -> Stepped {
 }
 
 // A bill begun on the page.
-pub(crate) fn begun(page: &mut [u8]) -> Stepped {
+pub(crate) fn begun(page: &mut [u8]) -> Stepped
+    ensures begun_or_refused { Begins page.old result page.new }
+    ensures bill_of_no_line { Stands [] page.new result.bill }
+{
     match Begun::begin(page) {
         Ok(bill) => taken(Bill::Begun(bill)),
         Err(refusal) => Stepped {
@@ -52,7 +64,10 @@ pub(crate) fn begun(page: &mut [u8]) -> Stepped {
 }
 
 // A line more, where the bill still takes lines.
-pub(crate) fn lined(bill: Bill, page: &mut [u8], reading: &Reading) -> Stepped {
+pub(crate) fn lined(bill: Bill, page: &mut [u8], reading: &Reading) -> Stepped
+    ensures line_added_or_refused { AddsLine bill page.old reading.now result page.new }
+    ensures one_line_more { Keeps bill page.old (added bill reading.now result.refusal) result.bill page.new }
+{
     match bill {
         Bill::Begun(begun) => match begun.line(page, reading) {
             Ok(longer) => taken(Bill::Begun(longer)),
@@ -64,7 +79,10 @@ pub(crate) fn lined(bill: Bill, page: &mut [u8], reading: &Reading) -> Stepped {
 }
 
 // The total, where the bill has none yet.
-pub(crate) fn totalled(bill: Bill, page: &mut [u8]) -> Stepped {
+pub(crate) fn totalled(bill: Bill, page: &mut [u8]) -> Stepped
+    ensures total_added_or_refused { AddsTotal bill page.old result page.new }
+    ensures same_lines { Keeps bill page.old [] result.bill page.new }
+{
     match bill {
         Bill::Begun(begun) => match begun.total(page) {
             Ok(ended) => taken(Bill::Totalled(ended)),
@@ -77,7 +95,9 @@ pub(crate) fn totalled(bill: Bill, page: &mut [u8]) -> Stepped {
 
 impl Bill {
     // How many bytes of the page are the bill.
-    pub(crate) fn written(&self) -> usize {
+    pub(crate) fn written(&self) -> usize
+        ensures { result ≡ written_of self.now }
+    {
         match self {
             Bill::None => 0,
             Bill::Begun(begun) => begun.written(),
@@ -86,7 +106,9 @@ impl Bill {
     }
 
     // Ends the bill, and says how many bytes it has.
-    pub(crate) fn end(self) -> usize {
+    pub(crate) fn end(self) -> usize
+        ensures { result ≡ written_of self }
+    {
         match self {
             Bill::None => 0,
             Bill::Begun(begun) => begun.tear(),

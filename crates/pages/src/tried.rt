@@ -1,3 +1,6 @@
+ghost use Rattle.std.specs.Prelude.{◌≡◌, min, length, count_by, ◌==◌};
+ghost use Rattle.pages.specs.Tries.{Filled, Steps, Leaves, Prints};
+
 use crate::bills::{Bill, Stepped, begun, lined, totalled};
 use crate::case::{Case, Step};
 use bill::refusal::Refusal;
@@ -14,12 +17,18 @@ pub(crate) struct Tried {
 }
 
 // How many bytes of the page were never written.
-fn unwritten(page: &[u8]) -> usize {
+fn unwritten(page: &[u8]) -> usize
+    ensures { result ≡ count_by (λ b. b == 46) page.now }
+{
     page.iter().filter(|byte| **byte == b'.').count()
 }
 
 // The step on the first bytes of the page, after the lines before it on the whole page.
-fn stepped(case: &Case, page: &mut [u8]) -> Stepped {
+#[tactic(auto, using(crate::proofs::Tries::left_begin, crate::proofs::Tries::left_line))]
+fn stepped(case: &Case, page: &mut [u8]) -> Stepped
+    ensures the_step { Steps case.now.step case.now (min case.now.page (length page.old)) page.old result page.new }
+    ensures bill_of_the_case { Leaves case.now result.refusal page.new result.bill }
+{
     let length = case.page.min(page.len());
     match case.step {
         Step::Begin => begun(&mut page[..length]),
@@ -35,7 +44,10 @@ fn stepped(case: &Case, page: &mut [u8]) -> Stepped {
 }
 
 // A bill with the lines before the step.
-fn filled(case: &Case, page: &mut [u8]) -> Bill {
+#[tactic(auto, using(crate::proofs::Tries::begun_filled, crate::proofs::Tries::filled_more))]
+fn filled(case: &Case, page: &mut [u8]) -> Bill
+    ensures { Filled case.now.lines case.now.chosen page.new result }
+{
     let mut bill = begun(page).left();
     for _ in 0..case.lines {
         bill = lined(bill, page, &case.chosen).left();
@@ -45,7 +57,9 @@ fn filled(case: &Case, page: &mut [u8]) -> Bill {
 
 impl Tried {
     // Tries the step, and then totals the bill on the whole page.
-    pub(crate) fn of(case: &Case, page: &mut [u8]) -> Tried {
+    pub(crate) fn of(case: &Case, page: &mut [u8]) -> Tried
+        ensures bill_of_the_case { Prints case.now result.refusal page.new result.whole }
+    {
         let Stepped { bill, refusal } = stepped(case, page);
         let written = bill.written();
         let left = unwritten(page);
