@@ -8,7 +8,8 @@ use Rattle.std.proofs.lemmas.Grind.{flat_map-append}
 use Rattle.rebar.specs.declared.beam.Beam.{Beam}
 use Rattle.rebar.specs.declared.cage.Cage.{Cage}
 use Rattle.console.specs.Printed.{IsPrinted, ShowsLightest, IsOnlyText, IsTextOfEveryCut}
-use Rattle.console.specs.Sinks.{joined, Prints}
+use Rattle.console.specs.Pages.{joined}
+use Rattle.console.specs.Sinks.{Prints}
 
 -- one piece more
 pub joined_more : (pieces : List (Bor (List ℕ))) (i : ℕ) (none : Bor (List ℕ)) → i < length pieces

@@ -6,7 +6,8 @@ use Rattle.bill.specs.declared.bill.Begun.{Begun}
 use Rattle.console.specs.declared.billing.TheConstants.{PAGE}
 use Rattle.console.specs.Bills.{lines_below}
 
--- a bill has the lines of the places below n, and what it has written is not more than such lines can be
+-- a bill has the lines of the places below n, and what it has written is not more than such lines
+-- can be
 pub record Billed (shown : ℕ → Shown) (n : ℕ) (page : List ℕ) (bill : Begun) : Type 0 where
   pub lines : HasLines (lines_below shown n) page bill
   pub few : bill.lines ≤ n

@@ -5,4 +5,5 @@ pub mod Bills
 pub mod Billing
 pub mod Printed
 pub mod Streams
+pub mod Pages
 pub mod Sinks

@@ -18,11 +18,14 @@ abbrev pub outcome_text : Result Outcome Refusal → List ℕ
 outcome_text (Ok Done) = codes "OK\n"
 outcome_text (Ok Cage) = codes "CAGE\n"
 outcome_text (Ok (NoCage n)) = codes "NONE " ++ (decimal n ++ codes "\n")
-outcome_text (Err e) = codes "REFUSED " ++ (decimal (refusal_number e) ++ (codes " " ++ (decimal (byte_place e) ++ codes "\n")))
+outcome_text (Err e) =
+    codes "REFUSED "
+    ++ (decimal (refusal_number e) ++ (codes " " ++ (decimal (byte_place e) ++ codes "\n")))
 
 -- letter, place or mark, and what became of the order
 abbrev pub line_text : ℕ → ℕ → Result Outcome Refusal → List ℕ
-line_text letter number o = letter ∷ (codes " " ++ (decimal number ++ (codes " " ++ outcome_text o)))
+line_text letter number o =
+    letter ∷ (codes " " ++ (decimal number ++ (codes " " ++ outcome_text o)))
 
 -- what became of a design order, by what its place then shows
 abbrev pub outcome_shown : Shown → Outcome
@@ -38,7 +41,8 @@ outcome_of (Ok (answer.Shows reading)) = Ok (outcome_shown reading.shown)
 outcome_of (Ok (answer.Designs n)) = Ok Done
 outcome_of (Err e) = Err e
 
--- the letter of the order that spells a call, and the place or the mark that its line shows; none where no order spells it
+-- the letter of the order that spells a call, and the place or the mark that its line shows; none
+-- where no order spells it
 abbrev pub head_of : Call → Option (ℕ × ℕ)
 head_of (call.Enter p card) = Some (enter_letter, p)
 head_of (call.Correct p card) = Some (correct_letter, p)

@@ -1,5 +1,6 @@
--- That a stream has led to a console, with this text printed. A reader of what is promised needs none of this: opening a console
--- begins it, each byte leads it on, and the end concludes without it.
+-- That a stream has led to a console, with this text printed. A reader of what is promised needs
+-- none of this: opening a console begins it, each byte leads it on, and the end concludes without
+-- it.
 use Rattle.std.specs.Prelude.{◌≡◌, ℕ, Bool, true, false, List, [], ◌∷◌, ◌++◌, map, reverse, Some, None, Option, Result, MatchBool}
 use Rattle.arrayvec.specs.ArrayString.{ArrayString}
 use Rattle.rebar.specs.declared.beam.Beam.{Beam}
@@ -24,14 +25,15 @@ pub data Course (pile : Beam → Cage → ℕ) : List Exchange → Table → Typ
       → Course pile exchanges t → Makes pile t call (refusal r) t' → AnswersLawfully pile t call r
       → Course pile (record { call = call; answer = Some r } ∷ exchanges) t'
 
--- what a stream leaves after its orders is what has come of the next one; where the reading has stopped, its letter is unknown
+-- what a stream leaves after its orders is what has come of the next one; where the reading has
+-- stopped, its letter is unknown
 abbrev pub Holds : Bool → List ℕ → List ℕ → Type 0
 Holds false rest pending = rest ≡ pending
 Holds true rest pending = begins_known rest ≡ false
 
 -- a stream has led to a sheet's table and what is held of the next order, and this text was printed
-pub record Led (pile : Beam → Cage → ℕ) (stream text : List ℕ) (table : Table) (pending : List ℕ) (stopped : Bool)
-    : Type 0 where
+pub record Led (pile : Beam → Cage → ℕ) (stream text : List ℕ) (table : Table) (pending : List ℕ)
+    (stopped : Bool) : Type 0 where
   pub exchanges : List Exchange
   pub rest : List ℕ
   pub whole : Leaves stream (map call_of exchanges) rest
@@ -51,24 +53,29 @@ text_due None = []
 text_due (Some line) = line.bytes
 
 -- every stream that led to a console is led on by a byte, and every text by the line that is due
-unfoldable pub GoesOn : {P : Type 0} → (Beam → Cage → ℕ) → Console P → ℕ → Option ArrayString → Console P → Type 0
+unfoldable pub GoesOn :
+    {P : Type 0} → (Beam → Cage → ℕ) → Console P → ℕ → Option ArrayString → Console P → Type 0
 GoesOn pile console byte line console' =
     (stream text : List ℕ) → LedTo pile stream text console
     → LedTo pile (stream ++ byte ∷ []) (text ++ text_due line) console'
 
--- after every stream that led to a console, the lines of the orders that stand whole in the stream and this byte are printed
-unfoldable pub PrintsSoFar : {P : Type 0} → (Beam → Cage → ℕ) → Console P → ℕ → Option ArrayString → Type 0
+-- after every stream that led to a console, the lines of the orders that stand whole in the stream
+-- and this byte are printed
+unfoldable pub PrintsSoFar :
+    {P : Type 0} → (Beam → Cage → ℕ) → Console P → ℕ → Option ArrayString → Type 0
 PrintsSoFar pile console byte line =
     (stream text : List ℕ) → LedTo pile stream text console
     → IsPrintedSoFar pile (stream ++ byte ∷ []) (text ++ text_due line)
 
 -- and no other lines may be printed
-unfoldable pub PrintsAlone : {P : Type 0} → (Beam → Cage → ℕ) → Console P → ℕ → Option ArrayString → Type 0
+unfoldable pub PrintsAlone :
+    {P : Type 0} → (Beam → Cage → ℕ) → Console P → ℕ → Option ArrayString → Type 0
 PrintsAlone pile console byte line =
     (stream text other : List ℕ) → LedTo pile stream text console
     → IsPrintedSoFar pile (stream ++ byte ∷ []) other → other ≡ text ++ text_due line
 
--- after every stream that led to a console, with this at the end the lines of its calls, STOP and the bill are printed
+-- after every stream that led to a console, with this at the end the lines of its calls, STOP and
+-- the bill are printed
 unfoldable pub EndsPrinted : {P : Type 0} → (Beam → Cage → ℕ) → Console P → List ℕ → Type 0
 EndsPrinted pile console ending =
     (stream text : List ℕ) → LedTo pile stream text console → IsPrinted pile stream (text ++ ending)
@@ -76,7 +83,8 @@ EndsPrinted pile console ending =
 -- and every line of the bill shows the lightest cage
 unfoldable pub EndsLightest : {P : Type 0} → (Beam → Cage → ℕ) → Console P → List ℕ → Type 0
 EndsLightest pile console ending =
-    (stream text : List ℕ) → LedTo pile stream text console → ShowsLightest pile stream (text ++ ending)
+    (stream text : List ℕ) → LedTo pile stream text console
+    → ShowsLightest pile stream (text ++ ending)
 
 -- and nothing else may be printed
 unfoldable pub EndsAlone : {P : Type 0} → (Beam → Cage → ℕ) → Console P → List ℕ → Type 0

@@ -10,7 +10,8 @@ use books::book::Book;
 use sheet::reading::Shown;
 use sheet::sheet::Sheet;
 
-// A page of this length has room for a bill of 64 places: a head of 6 bytes, lines of 38 at most, and a total of 22 at most.
+// A page of this length has room for a bill of 64 places: a head of 6 bytes, lines of 38 at most, and a
+// total of 22 at most.
 pub(crate) const PAGE: usize = 6 + 64 * 38 + 22;
 
 // A bill of no line yet.

@@ -10,8 +10,8 @@ use arrayvec::ArrayVec;
 use books::book::Book;
 use sheet::sheet::Sheet;
 
-/// A console: a sheet on a pile of article books, the bytes of an order that is not whole yet, and whether the reading has
-/// stopped at an unknown letter. It has a fixed size, and every call answers on every input.
+/// A console: a sheet on a pile of article books, the bytes of an order that is not whole yet, and whether
+/// the reading has stopped at an unknown letter. It has a fixed size, and every call answers on every input.
 #[derive(Drop)]
 pub struct Console<P> {
     sheet: Sheet<P>,
@@ -68,13 +68,16 @@ impl<P: Book> Console<P> {
         }
     }
 
-    /// Takes a byte, and gives the line that is due with it: that of the order whose last byte it is. After an unknown letter
-    /// none is due any more.
+    /// Takes a byte, and gives the line that is due with it: that of the order whose last byte it is. After an
+    /// unknown letter none is due any more.
     pub fn take(&mut self, byte: u8) -> Option<Line>
         ensures keeps_the_pile { self.new.sheet.pile ≡ self.old.sheet.pile }
-        ensures history_goes_on_by_this_byte { GoesOn (P.Book.answer self.old.sheet.pile) self.old byte result self.new }
-        ensures lines_of_the_orders_that_stand_whole { PrintsSoFar (P.Book.answer self.old.sheet.pile) self.old byte result }
-        ensures no_other_lines { PrintsAlone (P.Book.answer self.old.sheet.pile) self.old byte result }
+        ensures history_goes_on_by_this_byte { GoesOn
+            (P.Book.answer self.old.sheet.pile) self.old byte result self.new }
+        ensures lines_of_the_orders_that_stand_whole { PrintsSoFar
+            (P.Book.answer self.old.sheet.pile) self.old byte result }
+        ensures no_other_lines { PrintsAlone
+            (P.Book.answer self.old.sheet.pile) self.old byte result }
     {
         if self.stopped {
             return None;
@@ -97,11 +100,15 @@ impl<P: Book> Console<P> {
         self.stopped || !self.pending.is_empty()
     }
 
-    /// What is printed if the stream ends here: STOP where bytes are left that begin no order, and the bill of the chosen places.
+    /// What is printed if the stream ends here: STOP where bytes are left that begin no order, and the bill of
+    /// the chosen places.
     pub fn end(&self) -> Ending
-        ensures lines_and_bill { EndsPrinted (P.Book.answer self.now.sheet.pile) self.now result.items }
-        ensures printed_cages_are_sound_and_lightest { EndsLightest (P.Book.answer self.now.sheet.pile) self.now result.items }
-        ensures nothing_else_is_printed { EndsAlone (P.Book.answer self.now.sheet.pile) self.now result.items }
+        ensures lines_and_bill { EndsPrinted
+            (P.Book.answer self.now.sheet.pile) self.now result.items }
+        ensures printed_cages_are_sound_and_lightest { EndsLightest
+            (P.Book.answer self.now.sheet.pile) self.now result.items }
+        ensures nothing_else_is_printed { EndsAlone
+            (P.Book.answer self.now.sheet.pile) self.now result.items }
     {
         let mut ending = stop_of(self.is_cut());
         let mut page = [0; PAGE];

@@ -1,4 +1,4 @@
-// The console: orders in, byte by byte, a line as soon as an order is whole, and the bending bill at the end.
+// The console: orders in, byte by byte, a line as soon as an order is whole, at the end the bill.
 #![tactic(auto)]
 
 mod billing; // the bill of the places that are chosen

@@ -9,7 +9,7 @@ use sheet::call::{Answer, Call};
 use sheet::reading::Shown;
 use sheet::refusal::Refusal;
 
-/// The most bytes of a line: letter, place or mark, REFUSED, its number and a byte place of twenty digits.
+/// The most bytes of a line: letter, place or mark, REFUSED, its number, a byte place of 20 digits.
 pub const LINE: usize = 39;
 
 /// The line of an order: its letter, its place or mark, and what became of it.

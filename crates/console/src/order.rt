@@ -13,11 +13,13 @@ pub(crate) fn is_letter(letter: u8) -> bool
     matches!(letter, b'E' | b'K' | b'X' | b'S' | b'D')
 }
 
-// The call of the first order of a stream, and what follows the order; none where the letter is unknown or the order is cut.
-// The numbers of the call are the stream's bytes, whatever they are.
+// The call of the first order of a stream, and what follows the order; none where the letter is unknown
+// or the order is cut. The numbers of the call are the stream's bytes, whatever they are.
 pub(crate) fn next_call(stream: &[u8]) -> Option<(Call<'_>, &[u8])>
-    ensures first_order { MatchOption result (NoOrder stream.now) (λ x. Begins stream.now x.0 x.1.now) }
-    ensures cut_before_the_longest { IfNone result (begins_known stream.now ≡ true → length stream.now < LONGEST_ORDER) }
+    ensures first_order { MatchOption result
+        (NoOrder stream.now) (λ x. Begins stream.now x.0 x.1.now) }
+    ensures cut_before_the_longest { IfNone result
+        (begins_known stream.now ≡ true → length stream.now < LONGEST_ORDER) }
 {
     match stream {
         [b'S', kind, mark, value, rest @ ..] => {

@@ -3,14 +3,15 @@ ghost use Rattle.std.specs.Prelude.{[], IsTrue, IsErr, IfOk, OnErr, Some};
 ghost use Rattle.bill.specs.Text.{put};
 ghost use Rattle.console.specs.Printed.{IsPrinted, ShowsLightest, IsOnlyText, IsTextOfEveryCut};
 ghost use Rattle.console.specs.Streams.{text_due};
-ghost use Rattle.console.specs.Sinks.{joined, Continues, Prints};
+ghost use Rattle.console.specs.Pages.{joined, OnPage};
+ghost use Rattle.console.specs.Sinks.{Continues, Prints};
 
 use crate::console::{Console, ENDING};
 use crate::line::{LINE, Line};
 use books::book::Book;
 
-/// The page is too short for every answer that a stream of so many bytes can get: it wants `LINE` bytes for each of them, and
-/// `ENDING` more.
+/// The page is too short for every answer that a stream of so many bytes can get: it wants `LINE` bytes for
+/// each of them, and `ENDING` more.
 #[derive(Clone, Copy, Debug, PartialEq, Eq)]
 pub struct PageTooShort;
 
@@ -73,10 +74,12 @@ fn put_piece<P: Book>(
 ) -> usize
     requires { written + LINE * length piece.now ≤ length page.old }
     ensures keeps_the_pile { console.new.sheet.pile ≡ console.old.sheet.pile }
-    ensures lines_due { Continues (P.Book.answer console.old.sheet.pile) console.old piece.now (Some (take written page.old))
+    ensures lines_due { Continues (P.Book.answer console.old.sheet.pile)
+        console.old piece.now (Some (take written page.old))
         console.new (Some (take result page.new)) }
     ensures rest { drop result page.new ≡ drop result page.old }
-    ensures at_most_a_line_for_each_byte { (written ≤ result) × (result ≤ written + LINE * length piece.now) }
+    ensures at_most_a_line_for_each_byte { (written ≤ result)
+        × (result ≤ written + LINE * length piece.now) }
 {
     let mut end = written;
     for byte in piece {
@@ -85,10 +88,11 @@ fn put_piece<P: Book>(
     end
 }
 
-// Puts the lines and the bill of a stream on a page that has room for them, and says how many bytes they are.
+// Puts the lines and the bill of a stream on a page that has room for them. Says how many bytes they are.
 fn put_answers<P: Book + Drop>(pile: P, pieces: &[&[u8]], page: &mut [u8]) -> usize
     requires { LINE * length (joined pieces.now) + ENDING ≤ length page.old }
-    ensures prints { Prints (P.Book.answer pile) (joined pieces.now) (Some []) (Some (take result page.new)) }
+    ensures prints { Prints (P.Book.answer pile) (joined pieces.now)
+        (Some []) (Some (take result page.new)) }
     ensures rest { drop result page.new ≡ drop result page.old }
     ensures within { result ≤ length page.old }
 {
@@ -100,21 +104,28 @@ fn put_answers<P: Book + Drop>(pile: P, pieces: &[&[u8]], page: &mut [u8]) -> us
     put(page, written, console.end().as_slice())
 }
 
-/// Answers a stream that is there whole, in one piece or in several, on a page: the line of each order, and the bill. Says how
-/// many bytes of the page they are. A page that is too short is refused, and stays as it was.
+/// Answers a stream that is there whole, in one piece or in several, on a page: the line of each order, and
+/// the bill. Says how many bytes of the page they are. A page that is too short is refused, and stays as it
+/// was.
 #[tactic(auto, using(crate::proofs::Pages::lightest))]
 pub fn answer_on_page<P: Book + Drop>(
     pile: P,
     pieces: &[&[u8]],
     page: &mut [u8],
 ) -> Result<usize, PageTooShort>
-    ensures refused_exactly_where_too_short { IsErr result ↔ (length page.old < LINE * length (joined pieces.now) + ENDING) }
+    ensures refused_exactly_where_too_short { IsErr result
+        ↔ (length page.old < LINE * length (joined pieces.now) + ENDING) }
     ensures unchanged_where_refused { OnErr result (page.new ≡ page.old) }
-    ensures lines_and_bill { IfOk result (λ n. IsPrinted (P.Book.answer pile) (joined pieces.now) (take n page.new)) }
-    ensures printed_cages_are_sound_and_lightest { IfOk result (λ n. ShowsLightest (P.Book.answer pile) (joined pieces.now) (take n page.new)) }
-    ensures nothing_else_is_printed { IfOk result (λ n. IsOnlyText (P.Book.answer pile) (joined pieces.now) (take n page.new)) }
-    ensures pieces_do_not_matter { IfOk result (λ n. IsTextOfEveryCut (P.Book.answer pile) (joined pieces.now) (take n page.new)) }
-    ensures rest_of_the_page_unchanged { IfOk result (λ n. (n ≤ length page.old) × (drop n page.new ≡ drop n page.old)) }
+    ensures lines_and_bill { OnPage result page.new
+        (IsPrinted (P.Book.answer pile) (joined pieces.now)) }
+    ensures printed_cages_are_sound_and_lightest { OnPage result page.new
+        (ShowsLightest (P.Book.answer pile) (joined pieces.now)) }
+    ensures nothing_else_is_printed { OnPage result page.new
+        (IsOnlyText (P.Book.answer pile) (joined pieces.now)) }
+    ensures pieces_do_not_matter { OnPage result page.new
+        (IsTextOfEveryCut (P.Book.answer pile) (joined pieces.now)) }
+    ensures rest_of_the_page_unchanged { IfOk result
+        (λ n. (n ≤ length page.old) × (drop n page.new ≡ drop n page.old)) }
 {
     if !has_room(page.len(), pieces) {
         return Err(PageTooShort);

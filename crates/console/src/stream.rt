@@ -28,7 +28,9 @@ fn print_piece<P: Book, W: Write>(
     sink: &mut W,
 ) -> io::Result<()>
     ensures keeps_the_pile { console.new.sheet.pile ≡ console.old.sheet.pile }
-    ensures lines_due { OnOk result (Continues (P.Book.answer console.old.sheet.pile) console.old piece.now (W.contents sink.old) console.new (W.contents sink.new)) }
+    ensures lines_due { OnOk result
+        (Continues (P.Book.answer console.old.sheet.pile)
+        console.old piece.now (W.contents sink.old) console.new (W.contents sink.new)) }
 {
     for byte in piece {
         print_line(console.take(*byte), sink)?;
@@ -43,7 +45,9 @@ fn print_all<P: Book, R: Read, W: Write>(
     sink: &mut W,
 ) -> io::Result<()>
     ensures keeps_the_pile { console.new.sheet.pile ≡ console.old.sheet.pile }
-    ensures lines_due { OnOk result (ReadsAll (P.Book.answer console.old.sheet.pile) (R.remaining reader.old) console.old (W.contents sink.old) console.new (W.contents sink.new)) }
+    ensures lines_due { OnOk result
+        (ReadsAll (P.Book.answer console.old.sheet.pile) (R.remaining reader.old)
+        console.old (W.contents sink.old) console.new (W.contents sink.new)) }
 {
     let mut piece = [0; 512];
     for _ in 0..u64::MAX {
@@ -63,14 +67,17 @@ fn print_all<P: Book, R: Read, W: Write>(
     Err(io::Error::new(ErrorKind::Other, "the orders never end"))
 }
 
-// Reads a stream of orders to a sheet on a pile of article books, up to its end or to a letter that no order has, and prints a
-// line for each order as soon as it is whole, and the bill at the end.
+/// Reads a stream of orders to a sheet on a pile of article books, up to its end or to a letter that no order
+/// has, and prints the line of each order as soon as it is whole, and the bill at the end. It fails where the
+/// reader or the sink does, and after 2^64 reads.
 pub fn answer_orders<P: Book + Drop, R: Read, W: Write>(
     pile: P,
     reader: &mut R,
     sink: &mut W,
 ) -> io::Result<()>
-    ensures lines_and_bill { OnOk result (PrintsKnown (P.Book.answer pile) (R.remaining reader.old) (W.contents sink.old) (W.contents sink.new)) }
+    ensures lines_and_bill { OnOk result
+        (PrintsKnown (P.Book.answer pile) (R.remaining reader.old)
+        (W.contents sink.old) (W.contents sink.new)) }
 {
     let mut console = Console::open(pile);
     print_all(&mut console, reader, sink)?;

@@ -1,5 +1,5 @@
 use Rattle.std.proofs.Common.{take}
-use Rattle.console.specs.Sinks.{joined}
+use Rattle.console.specs.Pages.{joined}
 use Rattle.console.proofs.Pages.{nothing_else, every_cut}
 use Rattle.console.proofs.page.answer_on_page.Goals as goal
 

@@ -1,5 +1,5 @@
 use Rattle.std.proofs.Common.{◌≡◌, ◌+◌, length, take}
-use Rattle.console.specs.Sinks.{joined}
+use Rattle.console.specs.Pages.{joined}
 use Rattle.console.proofs.page.has_room.Given as goal
 
 abbrev pub invariant-loop-piece : goal.invariant-loop-piece

@@ -1,7 +1,8 @@
 use Rattle.std.proofs.Common.{rules, ◌≡◌, List, ℕ, [], ◌++◌, length, take, slice_index_or, Some, refl, sym, ap, ◌∙◌, subst, arith}
 use Rattle.std.specs.Borrow.{Bor}
 use Rattle.console.specs.Streams.{EndsPrinted, EndsLightest, EndsAlone}
-use Rattle.console.specs.Sinks.{joined, Continues}
+use Rattle.console.specs.Pages.{joined}
+use Rattle.console.specs.Sinks.{Continues}
 use Rattle.console.proofs.Continuing.{stays, piece_more, all_read, prints}
 use Rattle.console.proofs.Pages.{joined_more, joined_all, length_more, length_part, behind}
 use Rattle.console.proofs.page.put_answers.Goals as goal

@@ -1,6 +1,7 @@
 use Rattle.std.proofs.Common.{◌≡◌, ◌*◌, ◌≤◌, [], length, take, drop, Some}
 use Rattle.console.specs.declared.line.TheConstants.{LINE}
-use Rattle.console.specs.Sinks.{joined, Continues}
+use Rattle.console.specs.Pages.{joined}
+use Rattle.console.specs.Sinks.{Continues}
 use Rattle.console.proofs.page.put_answers.Given as goal
 
 abbrev pub invariant-loop-piece : goal.invariant-loop-piece
