@@ -91,6 +91,10 @@ abbrev pub Keeps : Bill → List ℕ → List (ℕ × Choice) → Bill → List 
 Keeps b page more b' page' =
     (lines : List (ℕ × Choice)) → Stands lines page b → Stands (lines ++ more) page' b'
 
+-- the line that a step has added comes after those that the bill has
+abbrev pub KeepsAndAdds : Bill → List ℕ → Reading → Stepped → List ℕ → Type 0
+KeepsAndAdds b page rd s page' = Keeps b page (added b rd s.refusal) s.bill page'
+
 -- a begun bill refuses the line of a reading
 abbrev pub Refuses : Bill → List ℕ → Reading → Type 0
 Refuses bill.None page rd = Unit {0}

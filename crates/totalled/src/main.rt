@@ -27,7 +27,7 @@ fn write_bills(
     next: &mut [u8],
     reading: &Reading,
 ) -> Result<(usize, usize), Refusal>
-    ensures bills_on_the_pages_or_refused { BillsAs page.old next.old reading.now result page.new next.new }
+    ensures two_bills_or_refused { BillsAs page.old next.old reading.now result page.new next.new }
     ensures on_the_pages { IfOk result (λ written. AreOn written page.new next.new) }
 {
     let begun = Begun::begin(page)?;
