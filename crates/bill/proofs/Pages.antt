@@ -1,7 +1,8 @@
 -- What stands at the front of a page after each call of a bill.
-use Rattle.std.proofs.Common.{◌≡◌, ℕ, ◌+◌, List, [], ◌∷◌, ◌++◌, length, take, drop, Ok, Err, Result, sym, refl, ap, ◌∙◌, arith, length-append, append_assoc, append-nil}
+use Rattle.std.proofs.Common.{◌≡◌, ℕ, ◌+◌, ◌≤◌, Bool, true, false, cond, List, [], ◌∷◌, ◌++◌, length, take, drop, nat_lt, Some, None, Ok, Err, Result, sym, refl, ap, ◌∙◌, arith, length-append, append_assoc, append-nil, ltb-false}
 use Rattle.std.proofs.Math.Seq.{take-append_seam, take-append-add}
 use Rattle.std.proofs.lemmas.Grind.{flat_map-append}
+use Rattle.std.proofs.lemmas.Option.{none-some}
 use Rattle.std.proofs.lemmas.List.Sums.{sum_by-append}
 use Rattle.search.specs.declared.decision.Choice.{Choice}
 use Rattle.sheet.specs.declared.reading.Reading.{Reading}
@@ -9,12 +10,13 @@ use Rattle.sheet.specs.declared.reading.Shown.{Shown}
 use Rattle.sheet.specs.declared.reading.Shown.TheVariants.{Empty, Open, Chosen, Impossible}
 use Rattle.bill.specs.Text.{put}
 use Rattle.bill.specs.Bill.{line_text, total_text, head_text}
-use Rattle.bill.specs.Steps.{Puts, Added, BegunAs, LineAs, TotalAs}
+use Rattle.bill.specs.Steps.{short, Puts, Added, BegunAs, LineAs, TotalAs}
 use Rattle.bill.specs.Whole.{lines_text, steel_of, HasLines, BeginsBill, TakesLine, EndsBill}
 use Rattle.bill.specs.declared.bill.Begun.{Begun}
 use Rattle.bill.specs.declared.bill.Refused.{Refused}
 use Rattle.bill.specs.declared.bill.Totalled.{Totalled}
 use Rattle.bill.specs.declared.refusal.Refusal.{Refusal}
+use Rattle.bill.specs.declared.refusal.Refusal.TheVariants.{PageShort}
 
 -- bytes put after a front make a longer front
 put_front : (page front bs : List ℕ) (w : ℕ) → take w page ≡ front → w ≡ length front → take (w + length bs) (put page w bs) ≡ front ++ bs
@@ -30,6 +32,14 @@ module _ (page page' front bs : List ℕ) (w v : ℕ) (p : Puts page w bs v page
 
   long : v ≡ length (front ++ bs)
   long = rw (length-append front bs) (omega (arith, p.1, l))
+
+-- bytes that are not refused have room
+pub has_room : (page bs : List ℕ) (w : ℕ) → short page w bs ≡ None → w + length bs ≤ length page
+has_room page bs w h = go (nat_lt (length page) (w + length bs)) refl
+  where
+    go : (v : Bool) → nat_lt (length page) (w + length bs) ≡ v → w + length bs ≤ length page
+    go true e = absurd (none-some PageShort (sym h ∙ ap (λ (v : Bool). cond v (Some PageShort) None) e))
+    go false e = ltb-false (length page) (w + length bs) e
 
 pub begins : (page page' : List ℕ) (r : Result Begun Refusal) → BegunAs page r page' → BeginsBill r page'
 unfolding BeginsBill

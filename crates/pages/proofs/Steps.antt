@@ -1,5 +1,5 @@
 -- What stands on a page after each step.
-use Rattle.std.proofs.Common.{◌≡◌, ℕ, ◌+◌, ◌≤◌, Bool, true, false, cond, List, [], ◌∷◌, ◌++◌, length, nat_lt, Some, None, Ok, Err, sym, refl, ap, ◌∙◌, subst, arith, append-nil, ltb-false}
+use Rattle.std.proofs.Common.{◌≡◌, ℕ, ◌≤◌, Bool, true, false, cond, List, [], ◌∷◌, ◌++◌, length, nat_lt, Some, None, Ok, Err, sym, refl, ap, ◌∙◌, subst, arith, append-nil}
 use Rattle.std.proofs.lemmas.List.{take-append-le}
 use Rattle.std.proofs.lemmas.Option.{none-some}
 use Rattle.search.specs.declared.decision.Choice.{Choice}
@@ -10,20 +10,12 @@ use Rattle.bill.specs.Bill.{line_text, total_text, head_text}
 use Rattle.bill.specs.Steps.{short, why_line, Added}
 use Rattle.bill.specs.Whole.{HasLines, BeginsBill, TakesLine, EndsBill}
 use Rattle.bill.specs.declared.bill.Begun.{Begun}
-use Rattle.bill.specs.declared.refusal.Refusal.TheVariants.{PageShort, Full}
-use Rattle.bill.proofs.Pages.{begins, takes_line, ends}
+use Rattle.bill.specs.declared.refusal.Refusal.TheVariants.{Full}
+use Rattle.bill.proofs.Pages.{has_room, begins, takes_line, ends}
 use Rattle.pages.specs.declared.bills.Bill.{Bill}
 use Rattle.pages.specs.declared.bills.Bill.TheVariants as bill
 use Rattle.pages.specs.declared.bills.Stepped.{Stepped}
 use Rattle.pages.specs.Steps.{Begins, AddsLine, AddsTotal, Stands, Keeps, line_at, added}
-
--- bytes that are not refused have room
-roomy : (page bs : List ℕ) (w : ℕ) → short page w bs ≡ None → w + length bs ≤ length page
-roomy page bs w h = go (nat_lt (length page) (w + length bs)) refl
-  where
-    go : (v : Bool) → nat_lt (length page) (w + length bs) ≡ v → w + length bs ≤ length page
-    go true e = absurd (none-some PageShort (sym h ∙ ap (λ (v : Bool). cond v (Some PageShort) None) e))
-    go false e = ltb-false (length page) (w + length bs) e
 
 module _ (lines : List (ℕ × Choice)) (front rest : List ℕ) (b : Begun) (fits : b.written ≤ length front) where
   -- a bill on the front of a page is one on the page
@@ -44,7 +36,7 @@ line_fits b b' page page' place (shown.Chosen x) w a = go (nat_lt b.lines 64) re
   where
     go : (v : Bool) → nat_lt b.lines 64 ≡ v → (b.written ≤ length page) × (b'.written ≤ length page)
     go true e =
-        let room = roomy page (line_text place x) b.written (ap (λ (v : Bool). cond v (short page b.written (line_text place x)) (Some Full)) (sym e) ∙ w) in
+        let room = has_room page (line_text place x) b.written (ap (λ (v : Bool). cond v (short page b.written (line_text place x)) (Some Full)) (sym e) ∙ w) in
         (omega (arith, room), omega (arith, room, a.0.1))
     go false e = absurd (none-some Full (sym w ∙ ap (λ (v : Bool). cond v (short page b.written (line_text place x)) (Some Full)) e))
 
@@ -70,7 +62,7 @@ module _ (lines : List (ℕ × Choice)) (front front' rest : List ℕ) (long : l
   total_on_front bill.None s h k = subst (λ (z : Stepped). Stands lines (front' ++ rest) z.bill) (sym h.0) tt
   total_on_front (bill.Totalled t) s h k = subst (λ (z : Stepped). Stands lines (front' ++ rest) z.bill) (sym h.0) (rw h.1 k)
   total_on_front (bill.Begun b) s (Ok t, (e, l)) k =
-      let room = roomy front (total_text b.lines b.steel) b.written l.0 in
+      let room = has_room front (total_text b.lines b.steel) b.written l.0 in
       let has = ends b front (Ok t) front' l lines (shorter lines front rest b (omega (arith, room)) k) in
       subst (λ (z : Stepped). Stands lines (front' ++ rest) z.bill) (sym e)
       (take-append-le t.written front' rest (omega (arith, room, long, l.1.1)) ∙ has.0, has.1)
@@ -79,7 +71,7 @@ module _ (lines : List (ℕ × Choice)) (front front' rest : List ℕ) (long : l
 pub begin_on_front : (front front' rest : List ℕ) → length front' ≡ length front → (s : Stepped) → Begins front s front' → Stands [] (front' ++ rest) s.bill
 unfolding BeginsBill
 begin_on_front front front' rest long s (Ok b, (e, l)) =
-    let room = roomy front head_text 0 l.0 in
+    let room = has_room front head_text 0 l.0 in
     subst (λ (z : Stepped). Stands [] (front' ++ rest) z.bill) (sym e)
     (longer [] front' rest b (omega (arith, room, long, l.1.1)) (begins front front' (Ok b) l))
 begin_on_front front front' rest long s (Err f, (e, l)) = subst (λ (z : Stepped). Stands [] (front' ++ rest) z.bill) (sym e) tt

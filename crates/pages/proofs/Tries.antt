@@ -19,12 +19,12 @@ pub filled_more : (n : ℕ) (rd : Reading) (page page' : List ℕ) (b : Bill) (s
     → Keeps b page (added b rd s.refusal) s.bill page' → Filled (n + 1) rd page' s.bill
 filled_more n rd page page' bill.None s f h k =
     subst (λ (z : Stepped). Filled (n + 1) rd page' z.bill) (sym h.0)
-    (record { count = f.count; within = omega (arith, f.within); lines = tt; open_ = tt; most = inr tt })
-filled_more n rd page page' (bill.Totalled t) s f h k = absurd f.open_
+    (record { count = f.count; within = omega (arith, f.within); lines = tt; untotalled = tt; most = inr tt })
+filled_more n rd page page' (bill.Totalled t) s f h k = absurd f.untotalled
 filled_more n rd page page' (bill.Begun b) s f (Ok b', (e, l)) k =
     elim f.most [
       | inl c ↦ subst (λ (z : Stepped). Keeps (bill.Begun b) page (added (bill.Begun b) rd z.refusal) z.bill page' → Filled (n + 1) rd page' z.bill) (sym e)
-          (λ m. record { count = suc f.count; within = omega (arith, c); lines = m (lines_of f.count rd) f.lines; open_ = tt; most = inl (omega (arith, c)) }) k
+          (λ m. record { count = suc f.count; within = omega (arith, c); lines = m (lines_of f.count rd) f.lines; untotalled = tt; most = inl (omega (arith, c)) }) k
       | inr w ↦ absurd (none-some w.0 (sym l.0 ∙ w.1))
     ]
 filled_more n rd page page' (bill.Begun b) s f (Err r, (e, l)) k =
@@ -33,14 +33,14 @@ filled_more n rd page page' (bill.Begun b) s f (Err r, (e, l)) k =
       count = f.count;
       within = omega (arith, f.within);
       lines = rw (l.2, l.1) f.lines;
-      open_ = tt;
+      untotalled = tt;
       most = inr (r.refusal, rw (l.2, l.1) l.0);
     })
 
 -- no line yet
 pub begun_filled : (rd : Reading) (page page' : List ℕ) (s : Stepped) → Begins page s page' → Stands [] page' s.bill → Filled 0 rd page' s.bill
 begun_filled rd page page' s h k =
-    record { count = 0; within = omega arith; lines = k; open_ = begun_open h; most = inl refl }
+    record { count = 0; within = omega arith; lines = k; untotalled = begun_open h; most = inl refl }
   where
     begun_open : Begins page s page' → IsOpen s.bill
     begun_open (Ok b, (e, l)) = subst (λ (z : Stepped). IsOpen z.bill) (sym e) tt
@@ -75,7 +75,7 @@ module _ (case : Case) (front' : List ℕ) (s : Stepped) where
       count = f.count;
       within = f.within;
       bill = rw e
-          (after_line b (lines_of f.count case.chosen) f.count refl f.open_ h
+          (after_line b (lines_of f.count case.chosen) f.count refl f.untotalled h
           (line_on_front (lines_of f.count case.chosen) (take n page) front' (drop n page) long b case.tried s h (whole b f)));
     }
 

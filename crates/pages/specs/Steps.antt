@@ -47,13 +47,15 @@ Skips b page s page' = (s ≡ taken b) × (page' ≡ page)
 
 -- a line on a page, where the bill still takes lines
 abbrev pub AddsLine : Bill → List ℕ → Reading → Stepped → List ℕ → Type 0
-AddsLine (bill.Begun b) page rd s page' = (r : Result Begun Refused) × ((s ≡ after_line r) × LineAs b page rd r page')
+AddsLine (bill.Begun b) page rd s page' =
+    (r : Result Begun Refused) × ((s ≡ after_line r) × LineAs b page rd r page')
 AddsLine bill.None page rd s page' = Skips bill.None page s page'
 AddsLine (bill.Totalled t) page rd s page' = Skips (bill.Totalled t) page s page'
 
 -- a total on a page, where the bill has none yet
 abbrev pub AddsTotal : Bill → List ℕ → Stepped → List ℕ → Type 0
-AddsTotal (bill.Begun b) page s page' = (r : Result Totalled Refused) × ((s ≡ after_total r) × TotalAs b page r page')
+AddsTotal (bill.Begun b) page s page' =
+    (r : Result Totalled Refused) × ((s ≡ after_total r) × TotalAs b page r page')
 AddsTotal bill.None page s page' = Skips bill.None page s page'
 AddsTotal (bill.Totalled t) page s page' = Skips (bill.Totalled t) page s page'
 
@@ -67,7 +69,8 @@ written_of (bill.Totalled t) = t.written
 abbrev pub Stands : List (ℕ × Choice) → List ℕ → Bill → Type 0
 Stands lines page bill.None = Unit {0}
 Stands lines page (bill.Begun b) = HasLines lines page b
-Stands lines page (bill.Totalled t) = (take t.written page ≡ bill_text lines) × (t.written ≡ length (bill_text lines))
+Stands lines page (bill.Totalled t) =
+    (take t.written page ≡ bill_text lines) × (t.written ≡ length (bill_text lines))
 
 -- the line of a reading, none where its place is not chosen
 abbrev pub line_at : ℕ → Shown → List (ℕ × Choice)
@@ -85,7 +88,12 @@ added (bill.Totalled t) rd o = []
 
 -- the lines that a bill has stay its first, and more come after them
 abbrev pub Keeps : Bill → List ℕ → List (ℕ × Choice) → Bill → List ℕ → Type 0
-Keeps b page more b' page' = (lines : List (ℕ × Choice)) → Stands lines page b → Stands (lines ++ more) page' b'
+Keeps b page more b' page' =
+    (lines : List (ℕ × Choice)) → Stands lines page b → Stands (lines ++ more) page' b'
+
+-- the line that a step has added comes after those that the bill has
+abbrev pub KeepsAndAdds : Bill → List ℕ → Reading → Stepped → List ℕ → Type 0
+KeepsAndAdds b page rd s page' = Keeps b page (added b rd s.refusal) s.bill page'
 
 -- a begun bill refuses the line of a reading
 abbrev pub Refuses : Bill → List ℕ → Reading → Type 0

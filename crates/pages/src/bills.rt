@@ -1,5 +1,5 @@
 ghost use Rattle.std.specs.Prelude.{◌≡◌, []};
-ghost use Rattle.pages.specs.Steps.{taken, handed_back, Begins, AddsLine, AddsTotal, written_of, Stands, Keeps, added};
+ghost use Rattle.pages.specs.Steps.{taken, handed_back, Begins, AddsLine, AddsTotal, written_of, Stands, Keeps, KeepsAndAdds};
 
 use bill::bill::{Begun, Refused, Totalled};
 use bill::refusal::Refusal;
@@ -66,7 +66,7 @@ pub(crate) fn begun(page: &mut [u8]) -> Stepped
 // A line more, where the bill still takes lines.
 pub(crate) fn lined(bill: Bill, page: &mut [u8], reading: &Reading) -> Stepped
     ensures line_added_or_refused { AddsLine bill page.old reading.now result page.new }
-    ensures one_line_more { Keeps bill page.old (added bill reading.now result.refusal) result.bill page.new }
+    ensures one_line_more { KeepsAndAdds bill page.old reading.now result page.new }
 {
     match bill {
         Bill::Begun(begun) => match begun.line(page, reading) {

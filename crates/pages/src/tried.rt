@@ -1,5 +1,5 @@
-ghost use Rattle.std.specs.Prelude.{◌≡◌, min, length, count_by, ◌==◌};
-ghost use Rattle.pages.specs.Tries.{Filled, Steps, Leaves, Prints};
+ghost use Rattle.std.specs.Prelude.{◌≡◌, count_by, ◌==◌};
+ghost use Rattle.pages.specs.Tries.{Filled, Tries, Leaves, Prints};
 
 use crate::bills::{Bill, Stepped, begun, lined, totalled};
 use crate::case::{Case, Step};
@@ -26,7 +26,7 @@ fn unwritten(page: &[u8]) -> usize
 // The step on the first bytes of the page, after the lines before it on the whole page.
 #[tactic(auto, using(crate::proofs::Tries::left_begin, crate::proofs::Tries::left_line))]
 fn stepped(case: &Case, page: &mut [u8]) -> Stepped
-    ensures the_step { Steps case.now.step case.now (min case.now.page (length page.old)) page.old result page.new }
+    ensures the_step { Tries case.now page.old result page.new }
     ensures bill_of_the_case { Leaves case.now result.refusal page.new result.bill }
 {
     let length = case.page.min(page.len());

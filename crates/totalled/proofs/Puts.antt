@@ -1,8 +1,8 @@
 -- Texts put on a page one after the other stand there as one.
-use Rattle.std.proofs.Common.{◌≡◌, ℕ, ◌+◌, ◌≤◌, Bool, true, false, cond, List, ◌++◌, length, drop, nat_lt, Some, None, sym, refl, ap, ◌∙◌, arith, length-append, length-drop, append_assoc, ltb-false}
+use Rattle.std.proofs.Common.{◌≡◌, ℕ, ◌+◌, ◌≤◌, cond, List, ◌++◌, length, drop, nat_lt, Some, None, sym, ap, ◌∙◌, arith, length-append, length-drop, append_assoc}
 use Rattle.std.proofs.Math.Seq.{take-append_seam, drop-append-add}
 use Rattle.std.proofs.lemmas.List.{drop-drop}
-use Rattle.std.proofs.lemmas.Option.{none-some}
+use Rattle.bill.proofs.Pages.{has_room}
 use Rattle.bill.specs.Text.{put}
 use Rattle.bill.specs.Steps.{short, Puts}
 use Rattle.bill.specs.declared.refusal.Refusal.TheVariants.{PageShort}
@@ -13,14 +13,6 @@ put_more page a b =
     (take-append_seam a (drop (0 + length a) page), drop-append-add a (drop (0 + length a) page) (length b), drop-drop (length b) (0 + length a) page, append_assoc a b (drop (0 + length (a ++ b)) page))
     (ap (λ (n : ℕ). a ++ (b ++ drop n page)) (rw (length-append a b) (omega arith)))
 
--- a text that is not refused has room
-roomy : (page a : List ℕ) → short page 0 a ≡ None → 0 + length a ≤ length page
-roomy page a h = go (nat_lt (length page) (0 + length a)) refl
-  where
-    go : (v : Bool) → nat_lt (length page) (0 + length a) ≡ v → 0 + length a ≤ length page
-    go true e = absurd (none-some PageShort (sym h ∙ ap (λ (v : Bool). cond v (Some PageShort) None) e))
-    go false e = ltb-false (length page) (0 + length a) e
-
 length_put : (page a : List ℕ) → 0 + length a ≤ length page → length (put page 0 a) ≡ length page
 length_put page a h =
     length-append a (drop (0 + length a) page) ∙ rw (length-drop (0 + length a) page) (omega (arith, h))
@@ -28,7 +20,7 @@ length_put page a h =
 -- more text has room on the page where all of it has
 short_more : (page a b : List ℕ) → short page 0 a ≡ None → short (put page 0 a) (length a) b ≡ short page 0 (a ++ b)
 short_more page a b h =
-    ap (λ (n : ℕ). cond (nat_lt n (length a + length b)) (Some PageShort) None) (length_put page a (roomy page a h))
+    ap (λ (n : ℕ). cond (nat_lt n (length a + length b)) (Some PageShort) None) (length_put page a (has_room page a 0 h))
     ∙ ap (λ (n : ℕ). cond (nat_lt (length page) n) (Some PageShort) None) (rw (length-append a b) (omega arith))
 
 -- a text stands at the front of a page, w bytes of it; the other bytes are as they were

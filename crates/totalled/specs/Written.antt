@@ -1,5 +1,5 @@
 -- What the program writes on its two pages.
-use Rattle.std.specs.Prelude.{◌≡◌, ℕ, List, [], ◌∷◌, ◌++◌, Some, None, Ok, Err, Option, Result}
+use Rattle.std.specs.Prelude.{◌≡◌, ℕ, ◌≤◌, length, List, [], ◌∷◌, ◌++◌, Some, None, Ok, Err, Option, Result}
 use Rattle.std.specs.Option.{option_or}
 use Rattle.search.specs.declared.decision.Choice.{Choice}
 use Rattle.sheet.specs.declared.reading.Reading.{Reading}
@@ -27,7 +27,8 @@ torn_text place x = head_text ++ lines_text (line_alone place x)
 abbrev pub why_none : List ℕ → List ℕ → ℕ → Shown → Option Refusal
 why_none page next place Empty = option_or (short page 0 head_text) (Some NotChosen)
 why_none page next place Open = option_or (short page 0 head_text) (Some NotChosen)
-why_none page next place (Chosen x) = option_or (short page 0 (whole_text place x)) (short next 0 (torn_text place x))
+why_none page next place (Chosen x) =
+    option_or (short page 0 (whole_text place x)) (short next 0 (torn_text place x))
 why_none page next place (Impossible n) = option_or (short page 0 head_text) (Some NotChosen)
 
 -- the bills of a chosen cage were put on the two pages
@@ -35,11 +36,17 @@ abbrev pub Put : List ℕ → List ℕ → ℕ → Shown → ℕ × ℕ → List
 Put page next place Empty written page' next' = ⊥
 Put page next place Open written page' next' = ⊥
 Put page next place (Chosen x) written page' next' =
-    Puts page 0 (whole_text place x) written.0 page' × Puts next 0 (torn_text place x) written.1 next'
+    Puts page 0 (whole_text place x) written.0 page'
+    × Puts next 0 (torn_text place x) written.1 next'
 Put page next place (Impossible n) written page' next' = ⊥
 
 -- both bills are on their pages, or the first refusal
 abbrev pub BillsAs : List ℕ → List ℕ → Reading → Result (ℕ × ℕ) Refusal → List ℕ → List ℕ → Type 0
 BillsAs page next rd (Ok written) page' next' =
-    (why_none page next rd.place rd.shown ≡ None) × Put page next rd.place rd.shown written page' next'
+    (why_none page next rd.place rd.shown ≡ None)
+    × Put page next rd.place rd.shown written page' next'
 BillsAs page next rd (Err e) page' next' = why_none page next rd.place rd.shown ≡ Some e
+
+-- two pages are as long as what is written on them, or longer
+abbrev pub AreOn : ℕ × ℕ → List ℕ → List ℕ → Type 0
+AreOn written page next = (written.0 ≤ length page) × (written.1 ≤ length next)

@@ -1,8 +1,8 @@
 // Makes a bill of one line with its total, begins another with the next line, and prints both.
 #![tactic(auto)]
 
-ghost use Rattle.std.specs.Prelude.{◌≡◌, ◌≤◌, length, IfOk};
-ghost use Rattle.totalled.specs.Written.{BillsAs};
+ghost use Rattle.std.specs.Prelude.{◌≡◌, IfOk};
+ghost use Rattle.totalled.specs.Written.{BillsAs, AreOn};
 
 use bill::bill::{Begun, Refused};
 use bill::refusal::Refusal;
@@ -27,8 +27,8 @@ fn write_bills(
     next: &mut [u8],
     reading: &Reading,
 ) -> Result<(usize, usize), Refusal>
-    ensures bills_on_the_pages_or_refused { BillsAs page.old next.old reading.now result page.new next.new }
-    ensures on_the_pages { IfOk result (λ written. (written.0 ≤ length page.new) × (written.1 ≤ length next.new)) }
+    ensures two_bills_or_refused { BillsAs page.old next.old reading.now result page.new next.new }
+    ensures on_the_pages { IfOk result (λ written. AreOn written page.new next.new) }
 {
     let begun = Begun::begin(page)?;
     let lined = begun.line(page, reading).map_err(torn)?;

@@ -3,8 +3,8 @@ use Rattle.bill.specs.Steps.{BegunAs, LineAs, TotalAs}
 use Rattle.totalled.proofs.Bills.{both}
 use Rattle.totalled.proofs.write_bills.Goals as goal
 
-pub returns-clause-bills_on_the_pages_or_refused : goal.returns-clause-bills_on_the_pages_or_refused
-returns-clause-bills_on_the_pages_or_refused c =
+pub returns-clause-two_bills_or_refused : goal.returns-clause-two_bills_or_refused
+returns-clause-two_bills_or_refused c =
     let begun : BegunAs c.args.page.now (Ok c.in_ok-begun.begun) c.begin.new.page = search rules in
     let lined : LineAs c.in_ok-begun.begun c.begin.new.page c.args.reading.now (Ok c.in_ok-lined.lined) c.line.new.page = grind arith in
     let totalled : TotalAs c.in_ok-lined.lined c.line.new.page (Ok c.in_ok-totalled.totalled) c.total.new.page = grind arith in
