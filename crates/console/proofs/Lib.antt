@@ -8,4 +8,5 @@ pub mod Ending
 pub mod Sinks
 pub mod Continuing
 pub mod Stopping
+pub mod Unread
 pub mod Pages

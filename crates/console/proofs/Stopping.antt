@@ -12,7 +12,7 @@ use Rattle.console.specs.declared.console.Console.{Console}
 use Rattle.console.proofs.Orders.{unknown, one_leaving}
 use Rattle.console.proofs.Only.{alone_so_far}
 
-tells : (pile : Beam → Cage → ℕ) (stream text : List ℕ) (t : Table) (pending : List ℕ) (stopped : Bool) → begins_known pending ≡ true
+pub tells : (pile : Beam → Cage → ℕ) (stream text : List ℕ) (t : Table) (pending : List ℕ) (stopped : Bool) → begins_known pending ≡ true
     → Led pile stream text t pending stopped → MatchBool stopped (IsStopped stream) (IsStopped stream → ⊥)
 tells pile stream text t pending true known l = (map call_of l.exchanges, (l.rest, (l.whole, l.held)))
 tells pile stream text t pending false known l =

@@ -4,6 +4,7 @@ use Rattle.std.specs.Prelude.{◌≡◌, ℕ, List, ◌++◌, Some, Option, IfSo
 use Rattle.std.specs.Io.KnownBytes.{Appends}
 use Rattle.rebar.specs.declared.beam.Beam.{Beam}
 use Rattle.rebar.specs.declared.cage.Cage.{Cage}
+use Rattle.console.specs.Sinks.{LeavesUnread}
 use Rattle.console.specs.Streams.{LedTo}
 use Rattle.console.specs.declared.console.Console.{Console}
 
@@ -34,3 +35,12 @@ unfoldable pub ReadsAll :
     → Console P → Option (List ℕ) → Type 0
 ReadsAll pile known console old console' new =
     IfSome known (λ input. Continues pile console input old console' new)
+
+-- of known bytes that come after any stream which led to a console, so many are left
+unfoldable pub ReadsNoFurther :
+    {P : Type 0} → ℕ → (Beam → Cage → ℕ) → Option (List ℕ) → Console P → Option (List ℕ) → Type 0
+ReadsNoFurther most pile known console known' =
+    IfSome known
+    (λ bytes.
+    (stream text : List ℕ) → LedTo pile stream text console
+    → (left : List ℕ) × ((known' ≡ Some left) × LeavesUnread most stream bytes left))

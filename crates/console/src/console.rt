@@ -1,4 +1,4 @@
-ghost use Rattle.std.specs.Prelude.{◌≡◌, ◌+◌, ◌<◌, ◌≤◌, true, [], ◌++◌, length, codes, if◌then◌else◌};
+ghost use Rattle.std.specs.Prelude.{◌≡◌, ◌+◌, ◌<◌, ◌≤◌, true, false, [], ◌++◌, length, codes, if◌then◌else◌};
 ghost use Rattle.arrayvec.specs.ArrayVec.{array_vec_len};
 ghost use Rattle.console.specs.Orders.{begins_known};
 ghost use Rattle.console.specs.declared.order.TheConstants.{LONGEST_ORDER};
@@ -60,6 +60,7 @@ impl<P: Book> Console<P> {
     pub fn open(pile: P) -> Console<P>
         ensures keeps_the_pile { result.sheet.pile ≡ pile }
         ensures history_begins { LedTo (P.Book.answer pile) [] [] result }
+        ensures not_stopped { result.stopped ≡ false }
     {
         Console {
             sheet: Sheet::open(pile),

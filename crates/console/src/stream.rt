@@ -1,7 +1,7 @@
-ghost use Rattle.std.specs.Prelude.{◌≡◌, OnOk};
+ghost use Rattle.std.specs.Prelude.{◌≡◌, false, OnOk};
 ghost use Rattle.std.specs.Io.KnownBytes.{Appends};
-ghost use Rattle.console.specs.Feeding.{Continues, ReadsAll};
-ghost use Rattle.console.specs.Sinks.{PrintsKnown};
+ghost use Rattle.console.specs.Feeding.{Continues, ReadsAll, ReadsNoFurther};
+ghost use Rattle.console.specs.Sinks.{PrintsKnown, ReadsUntilStop};
 ghost use Rattle.console.specs.Streams.{text_due};
 
 use crate::console::Console;
@@ -39,18 +39,25 @@ fn print_piece<P: Book, W: Write>(
     Ok(())
 }
 
+// How many bytes are read at a time at most.
+pub(crate) const PIECE: usize = 4096;
+
 // Takes what a reader gives, up to its end or until the reading stops.
 fn print_all<P: Book, R: Read, W: Write>(
     console: &mut Console<P>,
     reader: &mut R,
     sink: &mut W,
 ) -> io::Result<()>
+    requires { console.old.stopped ≡ false }
     ensures keeps_the_pile { console.new.sheet.pile ≡ console.old.sheet.pile }
+    ensures reads_no_further { OnOk result
+        (ReadsNoFurther PIECE (P.Book.answer console.old.sheet.pile) (R.remaining reader.old)
+        console.old (R.remaining reader.new)) }
     ensures lines_due { OnOk result
         (ReadsAll (P.Book.answer console.old.sheet.pile) (R.remaining reader.old)
         console.old (W.contents sink.old) console.new (W.contents sink.new)) }
 {
-    let mut piece = [0; 512];
+    let mut piece = [0; PIECE];
     for _ in 0..u64::MAX {
         let count = match reader.read(&mut piece) {
             Ok(count) => count,
@@ -70,7 +77,7 @@ fn print_all<P: Book, R: Read, W: Write>(
 
 /// Reads a stream of orders to a sheet on a pile of article books, up to its end or to a letter that no order
 /// has, and prints the line of each order as soon as it is whole, and the bill at the end. It fails where the
-/// reader or the sink does, and after 2^64 reads.
+/// reader or the sink does, and after 2^64 - 1 reads.
 pub fn answer_orders<P: Book + Drop, R: Read, W: Write>(
     pile: P,
     reader: &mut R,
@@ -79,6 +86,8 @@ pub fn answer_orders<P: Book + Drop, R: Read, W: Write>(
     ensures lines_and_bill { OnOk result
         (PrintsKnown (P.Book.answer pile) (R.remaining reader.old)
         (W.contents sink.old) (W.contents sink.new)) }
+    ensures ends_at_an_unknown_letter { OnOk result
+        (ReadsUntilStop PIECE (R.remaining reader.old) (R.remaining reader.new)) }
 {
     let mut console = Console::open(pile);
     print_all(&mut console, reader, sink)?;

@@ -1,4 +1,6 @@
 use crate::workshop::Workshop;
+use console::console::ENDING;
+use console::line::LONGEST_LINE;
 use console::page::answer_on_page;
 use console::stream::answer_orders;
 use std::alloc::Global;
@@ -28,8 +30,22 @@ impl Read for Pieces<'_> {
     }
 }
 
-// What the console prints of a stream that comes in two pieces or more.
-fn answer(heap: Global, stream: &[u8], next: usize, then: usize) -> anyhow::Result<Vec<u8>> {
+// The console's answer to a stream in one piece, by way of a page.
+pub(crate) fn answer_whole(heap: Global, stream: &[u8]) -> anyhow::Result<Vec<u8>> {
+    let length = stream
+        .len()
+        .saturating_mul(LONGEST_LINE)
+        .saturating_add(ENDING);
+    let mut page = vec![in heap; 0; length]?;
+    let Ok(written) = answer_on_page(Workshop, &[stream], page.as_mut_slice()) else {
+        anyhow::bail!("the page is too short");
+    };
+    page.truncate(written);
+    Ok(page)
+}
+
+// The console's answer to a stream that a reader gives in pieces.
+fn answer_read(heap: Global, stream: &[u8], next: usize, then: usize) -> anyhow::Result<Vec<u8>> {
     let mut pieces = Pieces {
         left: stream,
         next,
@@ -40,16 +56,22 @@ fn answer(heap: Global, stream: &[u8], next: usize, then: usize) -> anyhow::Resu
     Ok(out)
 }
 
-// How many ways to cut a stream leave the console's answer as it is: into two at every byte, and into pieces of one length.
-pub(crate) fn count_same(heap: Global, stream: &[u8], whole: &[u8]) -> anyhow::Result<u64> {
+// How many ways to cut a stream into two, at every byte, leave the answer as it is.
+pub(crate) fn count_in_two(heap: Global, stream: &[u8], whole: &[u8]) -> anyhow::Result<u64> {
     let mut same: u64 = 0;
     for first in 1..stream.len() {
-        if answer(heap, stream, first, usize::MAX)?.as_slice() == whole {
+        if answer_read(heap, stream, first, usize::MAX)?.as_slice() == whole {
             same = same.saturating_add(1);
         }
     }
+    Ok(same)
+}
+
+// How many ways to cut a stream into pieces of one length leave the answer as it is.
+pub(crate) fn count_in_pieces(heap: Global, stream: &[u8], whole: &[u8]) -> anyhow::Result<u64> {
+    let mut same: u64 = 0;
     for size in [1, 2, 3, 7, 4096] {
-        if answer(heap, stream, size, size)?.as_slice() == whole {
+        if answer_read(heap, stream, size, size)?.as_slice() == whole {
             same = same.saturating_add(1);
         }
     }

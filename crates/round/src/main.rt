@@ -8,10 +8,8 @@ mod cuts; // a stream in pieces
 mod record; // the streams of the input
 mod workshop; // the book of the workshop
 
-use crate::cuts::count_same;
+use crate::cuts::{answer_whole, count_in_pieces, count_in_two};
 use crate::record::next_stream;
-use crate::workshop::Workshop;
-use console::stream::answer_orders;
 use std::io::{Read, Write};
 
 fn main(rt: HostRuntime) -> anyhow::Result<()> {
@@ -21,11 +19,10 @@ fn main(rt: HostRuntime) -> anyhow::Result<()> {
     let mut rest = bytes.as_slice();
     let mut same: u64 = 0;
     while let Some((stream, after)) = next_stream(rest) {
-        let mut orders = stream;
-        let mut out = Vec::new(heap);
-        answer_orders(Workshop, &mut orders, &mut out)?;
-        rt.stdout().write_all(out.as_slice())?;
-        same = same.saturating_add(count_same(heap, stream, out.as_slice())?);
+        let whole = answer_whole(heap, stream)?;
+        rt.stdout().write_all(whole.as_slice())?;
+        same = same.saturating_add(count_in_two(heap, stream, whole.as_slice())?);
+        same = same.saturating_add(count_in_pieces(heap, stream, whole.as_slice())?);
         rest = after;
     }
     println!(rt; "CUTS {same}")?;

@@ -6,6 +6,7 @@ use console::line::LONGEST_LINE;
 use console::page::{PageTooShort, answer_on_page};
 use console::stream::answer_orders;
 use std::alloc::AllocError;
+use std::cell::Cell;
 use std::io;
 use std::io::{ErrorKind, Read, Write};
 use std::process::Abort;
@@ -167,6 +168,72 @@ fn reader_that_breaks_off(rt: HostRuntime) -> Result<(), Fail> {
         Err(ErrorKind::BrokenPipe)
     );
     assert_eq!(rt; out.as_slice(), b"S 5 OK\n".as_slice());
+    Ok(())
+}
+
+#[test]
+fn reader_at_an_unknown_letter(rt: HostRuntime) -> Result<(), Fail> {
+    let mut reader = BreaksOff {
+        interrupted: true,
+        left: b"S\x00\x05\x01RX\x07",
+    };
+    let mut out = Vec::new(rt.alloc());
+    answer_orders(PILE, &mut reader, &mut out)?;
+    assert!(rt; out.as_slice() == b"S 5 OK\nSTOP\nCAGES\nTOTAL 0 0\n".as_slice());
+    Ok(())
+}
+
+// A sink that counts what was written and not flushed.
+#[derive(Drop)]
+struct Held<'a> {
+    held: &'a Cell<usize>,
+}
+
+impl Write for Held<'_> {
+    fn write(&mut self, buf: &[u8]) -> io::Result<usize> {
+        self.held.set(self.held.get().saturating_add(buf.len()));
+        Ok(buf.len())
+    }
+
+    fn flush(&mut self) -> io::Result<()> {
+        self.held.set(0);
+        Ok(())
+    }
+}
+
+// A reader that gives a byte at a time, and none while something is held back.
+#[derive(Drop)]
+struct Patient<'a> {
+    held: &'a Cell<usize>,
+    left: &'a [u8],
+}
+
+impl Read for Patient<'_> {
+    fn read(&mut self, buf: &mut [u8]) -> io::Result<usize> {
+        if self.held.get() != 0 {
+            return Err(io::Error::new(ErrorKind::WouldBlock, "an answer is held back"));
+        }
+        let Some((first, left)) = self.left.split_first() else {
+            return Ok(0);
+        };
+        self.left = left;
+        let Some(place) = buf.first_mut() else {
+            return Ok(0);
+        };
+        *place = *first;
+        Ok(1)
+    }
+}
+
+#[test]
+fn lines_before_the_next_read(rt: HostRuntime) -> Result<(), Fail> {
+    let held = Cell::new(0);
+    let mut orders = Patient {
+        held: &held,
+        left: b"S\x00\x05\x01E\x07\x00X\x07",
+    };
+    answer_orders(PILE, &mut orders, &mut Held { held: &held })?;
+    assert_eq!(rt; held.get(), 0);
     Ok(())
 }
 

@@ -1,8 +1,10 @@
 use Rattle.std.proofs.Common.{List, ℕ, ◌∙◌, subst}
 use Rattle.std.specs.Io.KnownBytes.{Appends}
 use Rattle.console.specs.Streams.{EndsPrinted, EndsLightest, EndsAlone}
-use Rattle.console.specs.Feeding.{ReadsAll}
+use Rattle.console.specs.declared.stream.TheConstants.{PIECE}
+use Rattle.console.specs.Feeding.{ReadsAll, ReadsNoFurther}
 use Rattle.console.proofs.Continuing.{prints, always}
+use Rattle.console.proofs.Unread.{until_stop}
 use Rattle.console.proofs.stream.answer_orders.Goals as goal
 
 pub returns : goal.returns
@@ -25,4 +27,8 @@ returns g c =
           (subst (λ p. EndsLightest (g.P.Book.answer p) last c.end.result.items) kept c.end.ensures.printed_cages_are_sound_and_lightest)
           (subst (λ p. EndsAlone (g.P.Book.answer p) last c.end.result.items) kept c.end.ensures.nothing_else_is_printed)
           (subst (λ (v : List ℕ). Appends mid told v) c.as_slice.ensures.value c.in_ok-write_all.ensures.bytes) c.flush.ensures.bytes);
+      ends_at_an_unknown_letter =
+          always c.flush.result
+          (until_stop (g.P.Book.answer c.args.pile) PIECE known (g.R.Read.remaining c.print_all.new.reader) first c.open-console.ensures.history_begins
+          (subst (λ p. ReadsNoFurther PIECE (g.P.Book.answer p) known first (g.R.Read.remaining c.print_all.new.reader)) opened c.in_ok-print_all.ensures.reads_no_further));
     }

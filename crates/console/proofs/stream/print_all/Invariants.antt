@@ -1,4 +1,4 @@
-use Rattle.std.proofs.Common.{◌≡◌}
+use Rattle.std.proofs.Common.{◌≡◌, false}
 use Rattle.console.specs.Feeding.{ReadsOn}
 use Rattle.console.proofs.stream.print_all.Given as goal
 
@@ -7,3 +7,4 @@ invariant-loop g l =
     (l.console.sheet.pile ≡ l.initial.console.sheet.pile)
     × ReadsOn (g.P.Book.answer l.initial.console.sheet.pile) (g.R.Read.remaining l.initial.reader) l.initial.console (g.W.Write.contents l.initial.sink)
     (g.R.Read.remaining l.reader) l.console (g.W.Write.contents l.sink)
+    × (l.console.stopped ≡ false)
