@@ -2,12 +2,20 @@
 use Rattle.std.specs.Prelude.{◌≡◌, ℕ, List, [], ◌∷◌, ◌++◌, length, take, sum_by, flat_map, Result, IfOk}
 use Rattle.search.specs.declared.decision.Choice.{Choice}
 use Rattle.sheet.specs.declared.reading.Reading.{Reading}
-use Rattle.sheet.specs.declared.reading.Shown.TheVariants.{Chosen}
+use Rattle.sheet.specs.declared.reading.Shown.{Shown}
+use Rattle.sheet.specs.declared.reading.Shown.TheVariants.{Empty, Open, Chosen, Impossible}
 use Rattle.bill.specs.Bill.{line_text, total_text, head_text}
 use Rattle.bill.specs.declared.bill.Begun.{Begun}
 use Rattle.bill.specs.declared.bill.Refused.{Refused}
 use Rattle.bill.specs.declared.bill.Totalled.{Totalled}
 use Rattle.bill.specs.declared.refusal.Refusal.{Refusal}
+
+-- a place makes a line where it shows a chosen cage
+abbrev pub line_at : ℕ → Shown → List (ℕ × Choice)
+line_at p Empty = []
+line_at p Open = []
+line_at p (Chosen x) = (p, x) ∷ []
+line_at p (Impossible n) = []
 
 -- the lines of chosen cages, each with its place
 abbrev pub lines_text : List (ℕ × Choice) → List ℕ

@@ -7,7 +7,8 @@ use Rattle.sheet.specs.declared.call.Call.{Call}
 use Rattle.sheet.specs.declared.reading.Shown.{Shown}
 use Rattle.sheet.specs.declared.reading.Shown.TheVariants.{Empty, Open, Chosen, Impossible}
 use Rattle.sheet.specs.Law.{calls_of, Lawful}
-use Rattle.console.specs.Bills.{line_at, lines_below}
+use Rattle.bill.specs.Whole.{line_at}
+use Rattle.console.specs.Bills.{lines_below}
 use Rattle.console.specs.Printed.{IsPrinted, IsLightestAfter, ShowsLightest}
 
 one : {A : Type 0} (P : A → Type 0) (x : A) → P x → All P (x ∷ [])

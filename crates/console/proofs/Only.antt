@@ -24,8 +24,8 @@ use Rattle.sheet.specs.Size.{place_count}
 use Rattle.sheet.specs.Runs.{Run, opened as run_opened, made as run_made, AnswersLawfully}
 use Rattle.sheet.proofs.Runs.{lawful}
 use Rattle.sheet.proofs.Shows.{one_shown}
-use Rattle.bill.specs.Whole.{bill_text}
-use Rattle.console.specs.Bills.{line_at, lines_below}
+use Rattle.bill.specs.Whole.{bill_text, line_at}
+use Rattle.console.specs.Bills.{lines_below}
 use Rattle.console.specs.declared.line.Outcome.{Outcome}
 use Rattle.console.specs.Lines.{line_text, outcome_shown, outcome_of, head_of, text_by, text_of, lines_text}
 use Rattle.console.specs.Orders.{NoOrder, Leaves}

@@ -12,13 +12,14 @@ use Rattle.sheet.specs.declared.reading.Shown.TheVariants.{Empty, Open, Chosen, 
 use Rattle.bill.specs.Text.{two}
 use Rattle.bill.specs.Bill.{bars_text, ties_text, line_text, total_text, head_text}
 use Rattle.bill.specs.Steps.{short, why_line, Added, BegunAs, LineAs, TotalAs}
-use Rattle.bill.specs.Whole.{HasLines, bill_text, BeginsBill, TakesLine, EndsBill}
+use Rattle.bill.specs.Whole.{HasLines, bill_text, BeginsBill, TakesLine, EndsBill, line_at}
 use Rattle.bill.specs.declared.bill.Begun.{Begun}
 use Rattle.bill.specs.declared.bill.Refused.{Refused}
 use Rattle.bill.specs.declared.bill.Totalled.{Totalled}
 use Rattle.bill.specs.declared.refusal.Refusal.{Refusal}
 use Rattle.bill.specs.declared.refusal.Refusal.TheVariants.{PageShort}
-use Rattle.console.specs.Bills.{line_at, lines_below}
+use Rattle.bill.proofs.Pages.{has_room}
+use Rattle.console.specs.Bills.{lines_below}
 use Rattle.console.specs.declared.billing.TheConstants.{PAGE}
 use Rattle.console.specs.Billing.{Billed}
 
@@ -124,14 +125,6 @@ roomy_enough : (page bs : List ℕ) (w : ℕ) (e : Refusal) → w + length bs �
 roomy_enough page bs w e room h =
     let f : nat_lt (length page) (w + length bs) ≡ false = grind (arith, nat_tests) in none-some e (sym (rw f refl) ∙ h)
 
--- bytes that are not refused have room
-roomy_there : (page bs : List ℕ) (w : ℕ) → short page w bs ≡ None → w + length bs ≤ length page
-roomy_there page bs w h = go (nat_lt (length page) (w + length bs)) refl
-  where
-    go : (v : Bool) → nat_lt (length page) (w + length bs) ≡ v → w + length bs ≤ length page
-    go true e = absurd (none-some PageShort (sym h ∙ ap (λ (v : Bool). cond v (Some PageShort) None) e))
-    go false e = ltb-false (length page) (w + length bs) e
-
 -- the bill on a page with room
 module _ (page page' : List ℕ) (shown : ℕ → Shown) (long : length page' ≡ length page) where
   pub begun_lines : (bill : Begun) → BeginsBill (Ok bill) page' → BegunAs page (Ok bill) page' → length page ≡ PAGE → Billed shown 0 page' bill
@@ -146,7 +139,7 @@ module _ (page page' : List ℕ) (shown : ℕ → Shown) (long : length page' �
       → (take t.written page' ≡ bill_text (lines_below shown 64)) × (t.written ≤ PAGE)
   unfolding EndsBill
   ended_bill bill t h a b =
-      let there = roomy_there page (total_text bill.lines bill.steel) bill.written a.0 in
+      let there = has_room page (total_text bill.lines bill.steel) bill.written a.0 in
       ((h (lines_below shown 64) b.lines).0, omega (arith, a.1.1, there, b.room))
 
   pub total_fits : (bill : Begun) (e : Refused) → TotalAs bill page (Err e) page' → Billed shown 64 page bill → ⊥

@@ -7,3 +7,4 @@ pub mod Printed
 pub mod Streams
 pub mod Pages
 pub mod Sinks
+pub mod Feeding

@@ -1,6 +1,6 @@
--- That a stream has led to a console, with this text printed. A reader of what is promised needs
--- none of this: opening a console begins it, each byte leads it on, and the end concludes without
--- it.
+-- Which streams have led to a console, and what its calls promise of every one of them. What stands in
+-- `Led` need not be believed: opening a console begins it, each byte leads it on, and what is printed is
+-- concluded without it.
 use Rattle.std.specs.Prelude.{◌≡◌, ℕ, Bool, true, false, List, [], ◌∷◌, ◌++◌, map, reverse, Some, None, Option, Result, MatchBool}
 use Rattle.arrayvec.specs.ArrayString.{ArrayString}
 use Rattle.rebar.specs.declared.beam.Beam.{Beam}

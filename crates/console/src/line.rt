@@ -10,10 +10,10 @@ use sheet::reading::Shown;
 use sheet::refusal::Refusal;
 
 /// The most bytes of a line: letter, place or mark, REFUSED, its number, a byte place of 20 digits.
-pub const LINE: usize = 39;
+pub const LONGEST_LINE: usize = 39;
 
 /// The line of an order: its letter, its place or mark, and what became of it.
-pub type Line = ArrayString<LINE>;
+pub type Line = ArrayString<LONGEST_LINE>;
 
 // What became of an order that was not refused.
 #[derive(Clone, Copy, Debug, PartialEq, Eq)]
@@ -62,7 +62,7 @@ fn outcome_of(answer: Result<Answer, Refusal>) -> Result<Outcome, Refusal>
 
 // Adds a number, with no leading zero.
 fn push_number<I: Integer>(line: &mut Line, n: I)
-    requires { array_string_len line.old + I.MAX_STR_LEN ≤ LINE }
+    requires { array_string_len line.old + I.MAX_STR_LEN ≤ LONGEST_LINE }
     ensures text { line.new.bytes ≡ line.old.bytes ++ I.text n }
     ensures len { array_string_len line.new ≤ array_string_len line.old + I.MAX_STR_LEN }
 {
@@ -72,7 +72,7 @@ fn push_number<I: Integer>(line: &mut Line, n: I)
 
 // Adds what became of an order, up to the line's end.
 fn push_outcome(line: &mut Line, outcome: Result<Outcome, Refusal>)
-    requires { array_string_len line.old + 33 ≤ LINE }
+    requires { array_string_len line.old + 33 ≤ LONGEST_LINE }
     ensures { line.new.bytes ≡ line.old.bytes ++ outcome_text outcome }
 {
     match outcome {

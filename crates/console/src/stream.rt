@@ -1,6 +1,7 @@
 ghost use Rattle.std.specs.Prelude.{◌≡◌, OnOk};
 ghost use Rattle.std.specs.Io.KnownBytes.{Appends};
-ghost use Rattle.console.specs.Sinks.{PrintsKnown, Continues, ReadsAll};
+ghost use Rattle.console.specs.Feeding.{Continues, ReadsAll};
+ghost use Rattle.console.specs.Sinks.{PrintsKnown};
 ghost use Rattle.console.specs.Streams.{text_due};
 
 use crate::console::Console;

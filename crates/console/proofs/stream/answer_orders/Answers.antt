@@ -1,7 +1,7 @@
 use Rattle.std.proofs.Common.{List, ℕ, ◌∙◌, subst}
 use Rattle.std.specs.Io.KnownBytes.{Appends}
 use Rattle.console.specs.Streams.{EndsPrinted, EndsLightest, EndsAlone}
-use Rattle.console.specs.Sinks.{ReadsAll}
+use Rattle.console.specs.Feeding.{ReadsAll}
 use Rattle.console.proofs.Continuing.{prints, always}
 use Rattle.console.proofs.stream.answer_orders.Goals as goal
 

@@ -1,5 +1,5 @@
 use Rattle.std.proofs.Common.{rules, ◌≡◌, ◌<◌, ℕ, take, length, refl, ap, ◌∙◌, subst}
-use Rattle.console.specs.Sinks.{Continues}
+use Rattle.console.specs.Feeding.{Continues}
 use Rattle.console.proofs.Continuing.{reads_begin, reads_kept, reads_more, reads_end, reads_stop}
 use Rattle.console.proofs.stream.print_all.Goals as goal
 

@@ -1,5 +1,5 @@
 use Rattle.std.proofs.Common.{◌≡◌}
-use Rattle.console.specs.Sinks.{ReadsOn}
+use Rattle.console.specs.Feeding.{ReadsOn}
 use Rattle.console.proofs.stream.print_all.Given as goal
 
 abbrev pub invariant-loop : goal.invariant-loop

@@ -1,7 +1,7 @@
 use Rattle.std.proofs.Common.{rules, List, ℕ, [], ◌∷◌, take, slice_index_or, refl, sym, ◌∙◌, subst}
 use Rattle.std.proofs.lemmas.List.{take_more}
 use Rattle.console.specs.Streams.{GoesOn}
-use Rattle.console.specs.Sinks.{Continues}
+use Rattle.console.specs.Feeding.{Continues}
 use Rattle.console.proofs.Continuing.{stays, piece_more, byte}
 use Rattle.console.proofs.stream.print_piece.Goals as goal
 

@@ -1,5 +1,5 @@
 use Rattle.std.proofs.Common.{◌≡◌, take}
-use Rattle.console.specs.Sinks.{Continues}
+use Rattle.console.specs.Feeding.{Continues}
 use Rattle.console.proofs.stream.print_piece.Given as goal
 
 abbrev pub invariant-loop-byte : goal.invariant-loop-byte
