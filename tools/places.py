@@ -1,5 +1,5 @@
 #!/usr/bin/env python3
-"""Lists the places in src/ that docs/DESIGN-PASS.md counts, point by point.
+"""Lists the places in src/ that docs/history/DESIGN-PASS.md counts, point by point.
 
     python3 tools/places.py [FOLDER]        the folder is a checkout; the one above tools/ by default
 

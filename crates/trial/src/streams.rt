@@ -111,7 +111,7 @@ fn put_at_8(stream: &mut Vec<u8>, letter: u8, height: u16) -> Result<(), AllocEr
     stream.extend_from_slice(&CARD[10..34])
 }
 
-// The ten orders that README.md writes byte by byte.
+// The ten orders that docs/FIRST-STREAM.md writes byte by byte.
 #[test]
 fn ten_orders(rt: HostRuntime) -> Result<(), Fail> {
     let mut stream = Vec::new(rt.alloc());
