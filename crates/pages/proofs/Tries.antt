@@ -19,7 +19,7 @@ pub filled_more : (n : ℕ) (rd : Reading) (page page' : List ℕ) (b : Bill) (s
     → Keeps b page (added b rd s.refusal) s.bill page' → Filled (n + 1) rd page' s.bill
 filled_more n rd page page' bill.None s f h k =
     subst (λ (z : Stepped). Filled (n + 1) rd page' z.bill) (sym h.0)
-    (record { count = f.count; within = omega (arith, f.within); lines = tt; untotalled = tt; most = inr tt })
+    (record { count = f.count; within = omega (arith, f.within); lines = tt; untotalled = rw h.1 f.untotalled; most = inr tt })
 filled_more n rd page page' (bill.Totalled t) s f h k = absurd f.untotalled
 filled_more n rd page page' (bill.Begun b) s f (Ok b', (e, l)) k =
     elim f.most [
@@ -42,9 +42,9 @@ pub begun_filled : (rd : Reading) (page page' : List ℕ) (s : Stepped) → Begi
 begun_filled rd page page' s h k =
     record { count = 0; within = omega arith; lines = k; untotalled = begun_open h; most = inl refl }
   where
-    begun_open : Begins page s page' → IsOpen s.bill
-    begun_open (Ok b, (e, l)) = subst (λ (z : Stepped). IsOpen z.bill) (sym e) tt
-    begun_open (Err f, (e, l)) = subst (λ (z : Stepped). IsOpen z.bill) (sym e) tt
+    begun_open : Begins page s page' → IsOpen s.bill page'
+    begun_open (Ok b, (e, l)) = subst (λ (z : Stepped). IsOpen z.bill page') (sym e) tt
+    begun_open (Err f, (e, l)) = subst (λ (z : Stepped). IsOpen z.bill page') (sym e) (f, rw l.1 l.0)
 
 -- a step on the first bytes of a page
 module _ (case : Case) (front' : List ℕ) (s : Stepped) where
@@ -56,7 +56,7 @@ module _ (case : Case) (front' : List ℕ) (s : Stepped) where
     whole : (b : Bill) (f : Filled case.lines case.chosen page b) → Stands (lines_of f.count case.chosen) (take n page ++ drop n page) b
     whole b f = subst (λ (p : List ℕ). Stands (lines_of f.count case.chosen) p b) (sym (take-append-drop n page)) f.lines
 
-    after_line : (b : Bill) (lines : List (ℕ × Choice)) (count : ℕ) → lines ≡ lines_of count case.chosen → IsOpen b → AddsLine b (take n page) case.tried s front'
+    after_line : (b : Bill) (lines : List (ℕ × Choice)) (count : ℕ) → lines ≡ lines_of count case.chosen → IsOpen b page → AddsLine b (take n page) case.tried s front'
         → Stands (lines ++ added b case.tried s.refusal) (front' ++ drop n page) s.bill
         → Stands (lines_after Line case count s.refusal) (front' ++ drop n page) s.bill
     after_line bill.None lines count same o h k =

@@ -4,7 +4,8 @@ use Rattle.search.specs.declared.decision.Choice.{Choice}
 use Rattle.sheet.specs.declared.reading.Reading.{Reading}
 use Rattle.sheet.specs.declared.reading.Shown.{Shown}
 use Rattle.sheet.specs.declared.reading.Shown.TheVariants as shown
-use Rattle.bill.specs.Steps.{why_line, BegunAs, LineAs, TotalAs}
+use Rattle.bill.specs.Bill.{head_text}
+use Rattle.bill.specs.Steps.{short, why_line, BegunAs, LineAs, TotalAs}
 use Rattle.bill.specs.Whole.{bill_text, HasLines}
 use Rattle.bill.specs.declared.bill.Begun.{Begun}
 use Rattle.bill.specs.declared.bill.Refused.{Refused}
@@ -101,8 +102,8 @@ Refuses bill.None page rd = Unit {0}
 Refuses (bill.Begun b) page rd = (e : Refusal) × (why_line b page rd.place rd.shown ≡ Some e)
 Refuses (bill.Totalled t) page rd = Unit {0}
 
--- a bill that may still take lines, or none
-abbrev pub IsOpen : Bill → Type 0
-IsOpen bill.None = Unit {0}
-IsOpen (bill.Begun b) = Unit {0}
-IsOpen (bill.Totalled t) = ⊥
+-- a bill that may still take lines, or none on a page with no room for its head
+abbrev pub IsOpen : Bill → List ℕ → Type 0
+IsOpen bill.None page = (e : Refusal) × (short page 0 head_text ≡ Some e)
+IsOpen (bill.Begun b) page = Unit {0}
+IsOpen (bill.Totalled t) page = ⊥

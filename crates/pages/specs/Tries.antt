@@ -1,5 +1,5 @@
 -- What a case that is tried leaves on its page.
-use Rattle.std.specs.Prelude.{◌≡◌, ◌⊎◌, ℕ, zero, suc, ◌≤◌, List, [], ◌++◌, length, min, take, drop, Some, None, Option}
+use Rattle.std.specs.Prelude.{◌≡◌, ◌⊎◌, ℕ, zero, suc, ◌≤◌, List, [], ◌++◌, length, min, take, drop, count_by, ◌==◌, Some, None, Option}
 use Rattle.search.specs.declared.decision.Choice.{Choice}
 use Rattle.sheet.specs.declared.reading.Reading.{Reading}
 use Rattle.bill.specs.Bill.{head_text}
@@ -10,7 +10,8 @@ use Rattle.pages.specs.declared.bills.Stepped.{Stepped}
 use Rattle.pages.specs.declared.case.Case.{Case}
 use Rattle.pages.specs.declared.case.Step.{Step}
 use Rattle.pages.specs.declared.case.Step.TheVariants.{Begin, Line, Total}
-use Rattle.pages.specs.Steps.{Begins, AddsLine, AddsTotal, Stands, Refuses, IsOpen, line_at}
+use Rattle.pages.specs.declared.tried.Tried.{Tried}
+use Rattle.pages.specs.Steps.{Begins, AddsLine, AddsTotal, written_of, Stands, Refuses, IsOpen, line_at}
 
 -- the line of a reading, so many times
 abbrev pub lines_of : ℕ → Reading → List (ℕ × Choice)
@@ -22,7 +23,7 @@ pub record Filled (n : ℕ) (rd : Reading) (page : List ℕ) (b : Bill) : Type 0
   pub count : ℕ
   pub within : count ≤ n
   pub lines : Stands (lines_of count rd) page b
-  pub untotalled : IsOpen b
+  pub untotalled : IsOpen b page
   pub most : (count ≡ n) ⊎ Refuses b page rd
 
 -- something is done to the first n bytes of a page, and the others stay as they are
@@ -71,3 +72,15 @@ pub record Prints (case : Case) (o : Option Refusal) (page : List ℕ) (whole : 
   pub count : ℕ
   pub within : count ≤ case.lines
   pub text : IsText (lines_after case.step case count o) (take whole page)
+
+-- a case was tried on a page: its step was made, and then the total on the whole page
+pub record Made (case : Case) (page : List ℕ) (tried : Tried) (page' : List ℕ) : Type 0 where
+  pub step : Stepped
+  pub mid : List ℕ
+  pub stepped : Tries case page step mid
+  pub refusal : tried.refusal ≡ step.refusal
+  pub written : tried.written ≡ written_of step.bill
+  pub left : tried.left ≡ count_by (λ b. b == 46) mid
+  pub end : Stepped
+  pub ended : AddsTotal step.bill mid end page'
+  pub whole : tried.whole ≡ written_of end.bill

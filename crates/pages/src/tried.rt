@@ -1,5 +1,5 @@
 ghost use Rattle.std.specs.Prelude.{◌≡◌, count_by, ◌==◌};
-ghost use Rattle.pages.specs.Tries.{Filled, Tries, Leaves, Prints};
+ghost use Rattle.pages.specs.Tries.{Filled, Tries, Leaves, Made, Prints};
 
 use crate::bills::{Bill, Stepped, begun, lined, totalled};
 use crate::case::{Case, Step};
@@ -58,6 +58,7 @@ fn filled(case: &Case, page: &mut [u8]) -> Bill
 impl Tried {
     // Tries the step, and then totals the bill on the whole page.
     pub(crate) fn of(case: &Case, page: &mut [u8]) -> Tried
+        ensures step_and_total { Made case.now page.old result page.new }
         ensures bill_of_the_case { Prints case.now result.refusal page.new result.whole }
     {
         let Stepped { bill, refusal } = stepped(case, page);
