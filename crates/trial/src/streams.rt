@@ -1,8 +1,6 @@
 use crate::reference::CARD;
 use books::frame::Frame;
 use books::general::General;
-use console::console::ENDING;
-use console::line::LONGEST_LINE;
 use console::page::{PageTooShort, answer_on_page};
 use console::stream::answer_orders;
 use std::alloc::AllocError;
@@ -15,10 +13,10 @@ use std::test::Fail;
 // The pile of the program `cages`.
 const PILE: Frame<General> = Frame { below: General };
 
-// Whether the console writes these bytes on a page, however the stream is cut in two, and refuses a page with a byte less than
-// it wants.
+// Whether the console writes these bytes on a page of 39 bytes for each byte of the stream and 2,465 more, however the stream
+// is cut in two, and refuses a page with a byte less.
 fn answers(rt: &(impl Abort + AllocGlobal), stream: &[u8], expected: &[u8]) -> Result<(), Fail> {
-    let length = stream.len().saturating_mul(LONGEST_LINE).saturating_add(ENDING);
+    let length = stream.len().saturating_mul(39).saturating_add(2465);
     let mut page = vec![in rt.alloc(); 0; length]?;
     for cut in 0..=stream.len() {
         let (front, back) = stream.split_at(cut);
