@@ -73,8 +73,10 @@ def stored():
 
 
 def questions(groups):
-    """The last lines that program `questions` prints of the drawn beams."""
-    lines = "".join(case.line() for what, some in groups.items() if what.startswith("drawn") for case in some)
-    program = programs.build_proved("questions")
-    ran = subprocess.run([program], input=lines.encode(), capture_output=True, check=True)
-    return ran.stdout.decode().splitlines()[-3:]
+    """The last lines that program `questions` prints of the drawn beams; the plain program has to print the same."""
+    lines = "".join(case.line() for what, some in groups.items() if what.startswith("drawn") for case in some).encode()
+    commands = [programs.build_proved("questions")], [programs.PLAIN, "questions"]
+    proved, plain = (subprocess.run(command, input=lines, capture_output=True, check=True).stdout for command in commands)
+    if proved != plain:
+        raise SystemExit("bench: the plain program counts other questions")
+    return proved.decode().splitlines()[-3:]
