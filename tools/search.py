@@ -35,12 +35,13 @@ def count_cages(mains, ties):
 @cache
 def decide(beam, book, mains, ties):
     """The decision of a beam with these marks in stock."""
-    chosen, greatest = None, 0
+    lightest, greatest = None, 0
     for cage in cages(mains, ties):
         answer = book(beam, cage)
-        if answer != 0:
-            greatest = max(greatest, answer)
-        else:
-            one = Chosen(RULES.steel(beam, cage), cage)
-            chosen = one if chosen is None else min(chosen, one)
-    return Impossible(greatest) if chosen is None else chosen
+        if answer > greatest:
+            greatest = answer
+        if answer == 0:
+            key = RULES.steel(beam, cage), cage
+            if lightest is None or key < lightest:
+                lightest = key
+    return Impossible(greatest) if lightest is None else Chosen(*lightest)

@@ -4,10 +4,10 @@
     python3 tools/worked_cases.py [SEED]      writes crates/trial/stdin and crates/trial/stdout
     python3 tools/worked_cases.py --check     ends with status 1 where a file would change
 
-The rules (rules.py and what it imports) follow docs/RULES.md and docs/FORMATS.md line by line and share nothing
-with the crates, so that a slip in one of the two shows where their answers are compared. The cases are found by a search: for
-every article a pair of questions that differ by one step of one number, of which one is refused by it and the other is not; of
-the pairs found, the one whose passing side is nearest to the limit. Articles 13 and 26 ask two things, and have a pair for each.
+The rules (rules.py and what it imports) follow docs/RULES.md and docs/FORMATS.md line by line and share nothing with the
+crates, so that a slip in one of the two shows where their answers are compared. The cases are found by a search: for every
+article a pair of questions that differ by one step of one number, of which one is refused by it and the other is not; of the
+pairs found, the one whose passing side is nearest to the limit. Articles 13 and 26 ask two things, and have a pair for each.
 
 The limit of 300 mm of article 13 has no pair, since it never decides alone: where vs is at least 2 vc, 40 times a spacing
 above 300 passes 12,000 tenths, and no depth does.
