@@ -122,11 +122,12 @@ impl Tallies {
     }
 }
 
-/// Writes how many there are, with the median and the greatest.
+/// Writes how many there are, with the median and the greatest; of none both are 0.
 fn write_spread(out: &mut String, what: &str, mut thousandths: Vec<usize>) -> std::fmt::Result {
     thousandths.sort();
-    let (count, median) = (thousandths.len(), thousandths[thousandths.len() / 2]);
-    let worst = thousandths[count - 1];
+    let count = thousandths.len();
+    let median = thousandths.get(count / 2).copied().unwrap_or(0);
+    let worst = thousandths.last().copied().unwrap_or(0);
     let (whole, part) = (median / 1000, median % 1000);
     writeln!(out, "{count} {what}: median {whole}.{part:03}, worst {}.{:03}", worst / 1000, worst % 1000)
 }
