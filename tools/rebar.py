@@ -127,7 +127,10 @@ class Grades:
 
 @rule
 class Steel:
-    """The steel of a cage, in mm³: L × (both main areas) + ties × length × (tie area)."""
+    """The steel of a cage, in mm³: L × (both main areas) + ties × length × (tie area).
+
+    The number of ties is (L − 100) ÷ s, rounded up, plus 1.
+    """
 
     ends: int = 100
     last_tie: int = 1
@@ -147,7 +150,7 @@ class Steel:
         return beam.span * bars + ties * self.length(beam, marks.diameters.of(cage.tie)) * area(cage.tie)
 
     def length(self, beam, diameter):
-        """The length of a tie."""
+        """A tie is 2 × (b − 2c) + 2 × (h − 2c) + 2 hooks long; a hook is 75 or six tie diameters, the greater."""
         hook = max(self.least_hook, up(self.hook_diameters * diameter, self.tenths))
         width = self.widths * (beam.width - self.covers_of_width * beam.cover)
         height = self.heights * (beam.height - self.covers_of_height * beam.cover)
