@@ -2,12 +2,11 @@
 
 import subprocess
 
-import orders
+import draw
 import programs
+from models import card, orders, reference, search
 
-REFERENCE = bytes.fromhex(
-    "068b012c01f400d21388fffff0600000138800000bb800000000fffff060ffffec78fffff44800000fa0000007d000000000fffff448fffff060"
-)
+REFERENCE = reference.REFERENCE_CARD
 
 
 class Case:
@@ -23,19 +22,19 @@ class Case:
         return f"{mains} {ties} {self.card.hex()}\n"
 
     def has_all_marks(self):
-        return (self.mains, self.ties) == orders.ALL_MARKS
+        return (self.mains, self.ties) == draw.ALL_MARKS
 
     def count(self):
         """How many designs take long enough to be measured."""
-        return max(4, 3_000_000 // ((11 * len(self.mains)) ** 2 * 23 * len(self.ties)))
+        return max(4, 3_000_000 // search.count_cages(self.mains, self.ties))
 
     def is_chosen(self):
         return b"D 0 CAGE\n" in programs.run("cages", self.head + orders.design(0))[0]
 
 
 def draw_case(chance, most, is_full):
-    marks = orders.ALL_MARKS if is_full else orders.draw_marks(chance, 3, 2)
-    return Case(orders.card(orders.draw_beam(chance, most)), *marks)
+    marks = draw.ALL_MARKS if is_full else draw.draw_marks(chance, 3, 2)
+    return Case(card.write_card(draw.draw_beam(chance, most)), *marks)
 
 
 def draw_cases(chance, count, wanted, most=1.2, is_full=True):
@@ -74,8 +73,10 @@ def stored():
 
 
 def questions(groups):
-    """The last lines that program `questions` prints of the drawn beams."""
-    lines = "".join(case.line() for what, some in groups.items() if what.startswith("drawn") for case in some)
-    program = programs.build_proved("questions")
-    ran = subprocess.run([program], input=lines.encode(), capture_output=True, check=True)
-    return ran.stdout.decode().splitlines()[-3:]
+    """The last lines that program `questions` prints of the drawn beams; the plain program has to print the same."""
+    lines = "".join(case.line() for what, some in groups.items() if what.startswith("drawn") for case in some).encode()
+    commands = [programs.build_proved("questions")], [programs.PLAIN, "questions"]
+    proved, plain = (subprocess.run(command, input=lines, capture_output=True, check=True).stdout for command in commands)
+    if proved != plain:
+        raise SystemExit("bench: the plain program counts other questions")
+    return proved.decode().splitlines()[-3:]

@@ -5,30 +5,33 @@
 
 What it finds is a list to read, not a verdict: some of it is no place, and it is blind to what no pattern shows.
 """
+import argparse
 import pathlib
 import re
-import sys
 from collections import defaultdict
 
-ROOT = pathlib.Path(sys.argv[1]) if len(sys.argv) > 1 else pathlib.Path(__file__).resolve().parent.parent
-SOURCES = sorted(p for p in ROOT.glob("crates/*/src/**/*.rt") if "out" not in p.parts)
-LINES = [(p, n, line) for p in SOURCES for n, line in enumerate(p.read_text().split("\n"), 1)]
+
+class Checkout:
+    """A checkout, its files of src/ and their lines."""
+
+    def __init__(self, root):
+        self.root = root
+        self.sources = sorted(p for p in root.glob("crates/*/src/**/*.rt") if "out" not in p.parts)
+        self.lines = [(p, n, line) for p in self.sources for n, line in enumerate(p.read_text().split("\n"), 1)]
+
+    def show(self, path, number, text):
+        print(f"    {path.relative_to(self.root)}:{number}: {text.strip()[:110]}")
+
+    def grep(self, title, pattern, skip=None):
+        found = [(p, n, l) for p, n, l in self.lines if re.search(pattern, l) and not (skip and re.search(skip, l))]
+        print(f"  {title}: {len(found)}")
+        for p, n, l in found:
+            self.show(p, n, l)
 
 
-def show(path, number, text):
-    print(f"    {path.relative_to(ROOT)}:{number}: {text.strip()[:110]}")
-
-
-def grep(title, pattern, skip=None):
-    found = [(p, n, l) for p, n, l in LINES if re.search(pattern, l) and not (skip and re.search(skip, l))]
-    print(f"  {title}: {len(found)}")
-    for p, n, l in found:
-        show(p, n, l)
-
-
-def functions():
+def functions(checkout):
     """(path, line, name, parameters with `self`, requires clauses, body) of every function with a body."""
-    for path in SOURCES:
+    for path in checkout.sources:
         text = path.read_text()
         for m in re.finditer(r"^( *)(?:pub(?:\(crate\))? )?fn (\w+)", text, re.M):
             indent, name = m.group(1), m.group(2)
@@ -51,10 +54,10 @@ def functions():
             yield path, text.count("\n", 0, m.start()) + 1, name, params, requires, body
 
 
-def own_enums():
+def own_enums(checkout):
     print("  enums of two variants, and enums all of whose variants but one carry the same first value:")
     count = 0
-    for path in SOURCES:
+    for path in checkout.sources:
         text = path.read_text()
         for m in re.finditer(r"^(?:pub(?:\(crate\))? )?enum (\w+)[^{]*\{\n(.*?)^\}", text, re.M | re.S):
             variants = re.findall(r"^    (\w+)(?:\(([^)]*)\)| \{([^}]*)\})?", m.group(2), re.M)
@@ -64,17 +67,17 @@ def own_enums():
             but_one = len(variants) > 2 and len(carried) == len(variants) - 1 and len(set(carried)) == 1
             if two or but_one:
                 count += 1
-                show(path, text.count("\n", 0, m.start()) + 1, f"{m.group(1)}: {', '.join(v[0] for v in variants)}")
+                checkout.show(path, text.count("\n", 0, m.start()) + 1, f"{m.group(1)}: {', '.join(v[0] for v in variants)}")
     print(f"    {count}")
 
 
-def matched_by_hand():
-    grep("arms on Ok(..) and Err(..)", r"^\s*(Ok|Err)\(.*\) => ")
+def matched_by_hand(checkout):
+    checkout.grep("arms on Ok(..) and Err(..)", r"^\s*(Ok|Err)\(.*\) => ")
 
 
-def twins():
+def twins(checkout):
     alike = defaultdict(list)
-    for path, line, name, _, _, body in functions():
+    for path, line, name, _, _, body in functions(checkout):
         shape = re.sub(r"//.*", "", body)
         shape = re.sub(r"\b[A-Za-z_]\w*\b|\b[\d_]+\b", "x", shape)
         shape = re.sub(r"\s+", "", shape)
@@ -84,14 +87,14 @@ def twins():
     print(f"  groups of functions whose bodies differ in names and numbers alone: {len(groups)}")
     for group in groups:
         for path, line, name in group:
-            show(path, line, name)
+            checkout.show(path, line, name)
         print("    --")
 
 
-def repeated_facts():
+def repeated_facts(checkout):
     facts, pairs = defaultdict(list), defaultdict(list)
-    for path, line, name, params, requires, _ in functions():
-        crate = path.relative_to(ROOT).parts[1]
+    for path, line, name, params, requires, _ in functions(checkout):
+        crate = path.relative_to(checkout.root).parts[1]
         for clause in requires:
             for fact in re.split(r"×", clause):
                 fact = re.sub(r"[()\s]", "", fact)
@@ -110,30 +113,47 @@ def repeated_facts():
             print(f"    {crate}: {a} and {b}: {', '.join(n for _, _, n in where)}")
 
 
-print("1 own enums, flags, numbers for kinds and refusals")
-own_enums()
-matched_by_hand()
-grep("functions that answer a u8", r"-> u8\b")
-grep("numbers handed back as an answer", r"^\s*return \d+;")
-grep("kinds by number", r"\bkind: u8\b")
-print("2 twins")
-twins()
-print("3 loops over an index")
-grep("for over a range of numbers", r"\bfor \w+ in [^{]*\.\.[^.]")
-grep("while", r"^\s*while\b")
-print("4 comparisons, conversions and printing by hand")
-grep("impls of comparisons, Clone, Copy", r"^impl.*\b(PartialEq|Eq|PartialOrd|Ord|Clone|Copy)\b.* for ")
-grep("conversions into a number or a text by a method or function", r"fn (number|\w+_line|line_of|total_of|push_number|numbers_of|from_number|to_\w+)\b")
-print("5 repeated facts, parameters that travel together")
-repeated_facts()
-print("6 buffers with a length, parallel arrays")
-grep("a length beside a buffer", r"^\s*(pub(\(crate\))? )?len: usize")
-grep("constant arrays", r"^(pub(\(crate\))? )?const [A-Z0-9_]+: \[\w+; ")
-grep("fields that are arrays", r"^\s+(pub(\(crate\))? )?\w+: \[\w+; ")
-print("7 switches on a step, tables of functions")
-grep("function pointers, dyn", r"\bdyn\b|: fn\(|\[fn\(")
-print("8 proofs")
-proofs = [p for p in ROOT.glob("crates/*/proofs/**/*.antt") if "out" not in p.parts and p.name != "Lib.antt"]
-answers = [p for p in proofs if p.name == "Answers.antt"]
-lines = sum(len(p.read_text().split("\n")) - 1 for p in proofs)
-print(f"  files: {len(proofs)}, of them answers: {len(answers)}; lines: {lines}")
+def proofs(checkout):
+    found = [p for p in checkout.root.glob("crates/*/proofs/**/*.antt") if "out" not in p.parts and p.name != "Lib.antt"]
+    answers = [p for p in found if p.name == "Answers.antt"]
+    lines = sum(len(p.read_text().split("\n")) - 1 for p in found)
+    print(f"  files: {len(found)}, of them answers: {len(answers)}; lines: {lines}")
+
+
+def say_all(checkout):
+    """All places, point by point."""
+    print("1 own enums, flags, numbers for kinds and refusals")
+    own_enums(checkout)
+    matched_by_hand(checkout)
+    checkout.grep("functions that answer a u8", r"-> u8\b")
+    checkout.grep("numbers handed back as an answer", r"^\s*return \d+;")
+    checkout.grep("kinds by number", r"\bkind: u8\b")
+    print("2 twins")
+    twins(checkout)
+    print("3 loops over an index")
+    checkout.grep("for over a range of numbers", r"\bfor \w+ in [^{]*\.\.[^.]")
+    checkout.grep("while", r"^\s*while\b")
+    print("4 comparisons, conversions and printing by hand")
+    checkout.grep("impls of comparisons, Clone, Copy", r"^impl.*\b(PartialEq|Eq|PartialOrd|Ord|Clone|Copy)\b.* for ")
+    checkout.grep("conversions into a number or a text by a method or function", r"fn (number|\w+_line|line_of|total_of|push_number|numbers_of|from_number|to_\w+)\b")
+    print("5 repeated facts, parameters that travel together")
+    repeated_facts(checkout)
+    print("6 buffers with a length, parallel arrays")
+    checkout.grep("a length beside a buffer", r"^\s*(pub(\(crate\))? )?len: usize")
+    checkout.grep("constant arrays", r"^(pub(\(crate\))? )?const [A-Z0-9_]+: \[\w+; ")
+    checkout.grep("fields that are arrays", r"^\s+(pub(\(crate\))? )?\w+: \[\w+; ")
+    print("7 switches on a step, tables of functions")
+    checkout.grep("function pointers, dyn", r"\bdyn\b|: fn\(|\[fn\(")
+    print("8 proofs")
+    proofs(checkout)
+
+
+def main():
+    words = argparse.ArgumentParser(description=__doc__, formatter_class=argparse.RawDescriptionHelpFormatter)
+    own = pathlib.Path(__file__).resolve().parent.parent
+    words.add_argument("folder", type=pathlib.Path, nargs="?", default=own, metavar="FOLDER", help="a checkout")
+    say_all(Checkout(words.parse_args().folder))
+
+
+if __name__ == "__main__":
+    main()

@@ -5,26 +5,25 @@ Run once at the top of the repository, after port.py. It turns the names that sp
 (signatures at the left edge, in `where` blocks and fields of records), wherever the .antt and .rt files name them.
 Goals (`returns-then-x : goal.returns-then-x`) keep their names, since Rattle makes them; so do paths of the library.
 """
+import argparse
 import pathlib
 import re
-import sys
 
-ROOT = pathlib.Path(sys.argv[1] if len(sys.argv) > 1 else ".")
 WORD = r"[\w'≡≤≢∷]"
 NAME = rf"[a-z]{WORD}*(?:-{WORD}+)+"
 SIGNATURE = re.compile(rf"^\s*(?:(?:abbrev|unfoldable|pub)\s+)*({NAME})\s*:(?!:)\s*(.*)$", re.M)
 
 
-def files(*ends):
+def files(root, *ends):
     for end in ends:
-        for path in sorted(ROOT.glob(f"crates/*/**/*{end}")):
+        for path in sorted(root.glob(f"crates/*/**/*{end}")):
             if "out" not in path.parts:
                 yield path
 
 
-def own_names():
+def own_names(root):
     names = set()
-    for path in files(".antt"):
+    for path in files(root, ".antt"):
         for name, rest in SIGNATURE.findall(path.read_text()):
             if not re.match(r"(goal|need)\.", rest):
                 names.add(name)
@@ -37,10 +36,14 @@ def respelled(text, names):
 
 
 def main():
-    names = own_names()
+    words = argparse.ArgumentParser(description=__doc__, formatter_class=argparse.RawDescriptionHelpFormatter)
+    here = pathlib.Path(".")
+    words.add_argument("folder", type=pathlib.Path, nargs="?", default=here, metavar="FOLDER", help="the checkout to rewrite")
+    root = words.parse_args().folder
+    names = own_names(root)
     for name in sorted(names):
         print(name, "->", name.replace("-", "_"))
-    for path in files(".antt", ".rt"):
+    for path in files(root, ".antt", ".rt"):
         old = path.read_text()
         new = respelled(old, names)
         if new != old:

@@ -152,6 +152,7 @@ fn check_frame(beam: &Beam, ties: &Ties, bottom: &Face, top: &Face, shear: &Shea
 }
 
 /// The number of the first article that refuses a cage for a beam, or 0.
+#[inline(always)] // in each loop over all cages: with two callers it would stay a call, and a design take twice as long
 pub fn check(beam: &Beam, cage: &Cage) -> u8 {
     let bottom = Face::of(beam, &cage.bottom, &cage.ties);
     let top = Face::of(beam, &cage.top, &cage.ties);

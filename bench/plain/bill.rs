@@ -10,9 +10,7 @@ pub fn write_bill(out: &mut String, sheet: &Sheet) -> std::fmt::Result {
     let (mut lines, mut sum) = (0, 0);
     for (place, decision) in sheet.decisions() {
         if let Decision::Chosen(cage, steel) = decision {
-            write!(out, "{place:02} B {}#{} ", cage.bottom.number, cage.bottom.mark)?;
-            write!(out, "T {}#{} ", cage.top.number, cage.top.mark)?;
-            writeln!(out, "S #{}@{} {steel}", cage.ties.mark, cage.ties.spacing)?;
+            writeln!(out, "{place:02} B {} T {} S {} {steel}", cage.bottom, cage.top, cage.ties)?;
             lines += 1;
             sum += steel;
         }

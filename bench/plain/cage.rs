@@ -1,12 +1,13 @@
 //! Bars of a face, ties, cages, and their steel.
 
 use crate::card::Beam;
+use std::fmt::{Display, Formatter, Result};
 
 const DIAMETERS: [i64; 9] = [95, 127, 159, 191, 222, 254, 287, 323, 358];
 const AREAS: [i64; 9] = [71, 129, 199, 284, 387, 510, 645, 819, 1006];
 
 /// The bars of a face.
-#[derive(Clone, Copy)]
+#[derive(Clone, Copy, PartialEq)]
 pub struct Bars {
     pub mark: u8,
     pub number: i64,
@@ -21,6 +22,12 @@ impl Bars {
     /// Of all of them, in mm².
     pub fn area(&self) -> i64 {
         self.number * AREAS[self.mark as usize - 3]
+    }
+}
+
+impl Display for Bars {
+    fn fmt(&self, out: &mut Formatter) -> Result {
+        write!(out, "{}#{}", self.number, self.mark)
     }
 }
 
@@ -39,6 +46,12 @@ impl Ties {
     /// Of one bar, in mm².
     pub fn area(&self) -> i64 {
         AREAS[self.mark as usize - 3]
+    }
+}
+
+impl Display for Ties {
+    fn fmt(&self, out: &mut Formatter) -> Result {
+        write!(out, "#{}@{}", self.mark, self.spacing)
     }
 }
 
