@@ -1,4 +1,4 @@
-// What acts on a beam.
+//! What acts on a beam.
 #![tactic(auto)]
 
 pub mod actions; // factored actions of a set of loads
