@@ -1,9 +1,8 @@
-// The vocabulary: what beams and cages are, and the steel of a cage.
+//! The vocabulary: what beams and cages are, and the steel of a cage.
 #![tactic(auto)]
 
 pub mod beam; // a beam with its actions
 pub mod cage; // bars of a face, ties, cages
-mod from_numbers; // bars, ties and parts of a beam from numbers that may be out of range
 mod marks; // diameter and area by bar mark
 pub mod materials; // concrete, steel, aggregate, and the tables of the grades
 pub mod member; // span, frame and shear factor
