@@ -1,4 +1,4 @@
-// The stock of bar marks.
+//! The stock of bar marks.
 #![tactic(auto)]
 
 pub mod kind; // main bars and ties
