@@ -1,4 +1,4 @@
-// The beam card: bytes to a beam, or a fault with the byte place where it lies.
+//! The beam card: bytes to a beam, or a fault with the byte place where it lies.
 #![tactic(auto)]
 
 mod body; // a card whose map and length are right, and the parts of its beam
