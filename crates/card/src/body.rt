@@ -12,11 +12,8 @@ use crate::layout::Field;
 use crate::load::Bytes;
 use crate::map::Map;
 use crate::number::number;
-use loads::loads::{Case, LoadCase, Loads};
-use rebar::beam::Beam;
-use rebar::materials::Materials;
-use rebar::member::Member;
-use rebar::section::Section;
+use loads::{Case, LoadCase, Loads};
+use rebar::{Beam, Materials, Member, Section};
 
 // A card whose map and length are right: only its numbers are left to judge, by the least cover
 // among others.

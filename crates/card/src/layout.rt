@@ -2,7 +2,7 @@
 ghost use Rattle.std.specs.Prelude.{◌≡◌, ℕ, ◌<◌, ◌⊎◌};
 ghost use Rattle.card.specs.Layout.{field_count, layout, load_bit, size, field_size, case_size};
 
-use loads::loads::LoadCase;
+use loads::LoadCase;
 use rebar::materials::{is_concrete, is_steel};
 use rebar::member::is_shear_factor;
 

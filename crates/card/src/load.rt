@@ -6,7 +6,7 @@ ghost use Rattle.card.specs.Reads.{LoadAs};
 
 use crate::fault::Fault;
 use crate::number::out_of_range;
-use loads::loads::{Case, Force, is_moderate};
+use loads::{Case, Force, is_moderate};
 
 // N bytes of the rest, and where they begin.
 #[derive(Clone, Copy)]

@@ -6,7 +6,7 @@ ghost use Rattle.card.specs.Map.{stands, unknown, required, offset, Begins};
 
 use crate::fault::{Fault, FaultKind};
 use crate::layout::{Field, Mapped, SIZES};
-use loads::loads::LoadCase;
+use loads::LoadCase;
 use std::cmp::Ordering;
 
 // The map of a card: a bit for each field, set where the field stands on the card.

@@ -7,7 +7,7 @@ ghost use Rattle.card.specs.WellFormed.{TakenExactly};
 
 use crate::body::Body;
 use crate::fault::Fault;
-use rebar::beam::Beam;
+use rebar::Beam;
 
 // The least cover, in mm.
 const LEAST_COVER: u16 = 20;

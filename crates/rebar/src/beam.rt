@@ -5,8 +5,7 @@ ghost use Rattle.loads.specs.Actions.{ActionsOf};
 use crate::materials::Materials;
 use crate::member::Member;
 use crate::section::Section;
-use loads::actions::Actions;
-use loads::loads::Loads;
+use loads::{Actions, Loads};
 
 /// A beam. It carries the factored actions of its loads, so that they are computed once and not at
 /// every question.

@@ -9,7 +9,8 @@ use Rattle.stock.specs.Kinds.{known}
 -- a stock with no mark in
 abbrev pub IsEmpty : Stock → Type 0
 IsEmpty stock =
-    (stock.main ≡ replicate (count main_marks) false) × (stock.tie ≡ replicate (count tie_marks) false)
+    (stock.main ≡ replicate (count main_marks) false)
+    × (stock.tie ≡ replicate (count tie_marks) false)
 
 -- the row of a kind, from the least mark on
 abbrev pub row : Stock → Kind → List Bool

@@ -5,7 +5,7 @@ ghost use Rattle.stock.specs.Stock.{IsEmpty, row, has, with_mark, offers_cages};
 
 use crate::kind::Kind;
 use crate::stock_mark::StockMark;
-use rebar::cage::{Bars, Ties};
+use rebar::{Bars, Ties};
 
 /// Which marks are in, for the bars of a face and for ties, from mark 3 on, in fixed memory.
 #[derive(Clone, Copy)]
