@@ -4,7 +4,7 @@ use Rattle.rebar.specs.declared.beam.Beam.{Beam}
 use Rattle.card.specs.declared.fault.Fault.{Fault}
 use Rattle.card.specs.declared.fault.FaultKind.TheVariants.{OutOfRange}
 use Rattle.card.specs.declared.layout.Field.{Field}
-use Rattle.card.specs.declared.layout.LoadCase.{LoadCase}
+use Rattle.loads.specs.declared.loads.LoadCase.{LoadCase}
 use Rattle.card.specs.Card.{shape_fault, card_fault, map_of, rest_of, CardAs}
 use Rattle.card.specs.Faults.{fault, first}
 use Rattle.card.specs.Layout.{layout, load_bit, least_cover}

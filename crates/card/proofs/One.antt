@@ -6,7 +6,7 @@ use Rattle.loads.proofs.Same.{same_force, same_case, same_loads}
 use Rattle.rebar.specs.declared.beam.Beam.{Beam}
 use Rattle.rebar.proofs.SameBeam.{same_section, same_materials, same_member, same_beam}
 use Rattle.card.specs.declared.fault.Fault.{Fault}
-use Rattle.card.specs.declared.layout.LoadCase.{LoadCase}
+use Rattle.loads.specs.declared.loads.LoadCase.{LoadCase}
 use Rattle.card.specs.Card.{BeamIs, CardAs, OfNoOther}
 use Rattle.card.specs.Parts.{ForceIs, CaseIs}
 

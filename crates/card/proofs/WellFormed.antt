@@ -9,8 +9,8 @@ use Rattle.rebar.specs.declared.beam.Beam.{Beam}
 use Rattle.card.specs.declared.fault.Fault.{Fault}
 use Rattle.card.specs.declared.layout.Field.{Field}
 use Rattle.card.specs.declared.layout.Field.TheVariants.{Width, Height, Cover, Concrete, Steel, Aggregate, Frame, Span, ShearFactor}
-use Rattle.card.specs.declared.layout.LoadCase.{LoadCase}
-use Rattle.card.specs.declared.layout.LoadCase.TheVariants.{Dead, Live, Wind, Earthquake}
+use Rattle.loads.specs.declared.loads.LoadCase.{LoadCase}
+use Rattle.loads.specs.declared.loads.LoadCase.TheVariants.{Dead, Live, Wind, Earthquake}
 use Rattle.card.specs.Card.{map_of, rest_of, map_fault, shape_fault, card_fault, CardAs}
 use Rattle.card.specs.Faults.{first}
 use Rattle.card.specs.Layout.{layout, load_bit, least_cover}

@@ -16,7 +16,8 @@ map_of card = slice_index card 0 * 256 + slice_index card 1
 abbrev pub rest_of : List ℕ → List ℕ
 rest_of card = drop map_bytes card
 
--- the fault of a map, or of the length of a card with this map, in the order in which they are judged
+-- the fault of a map, or of the length of a card with this map, in the order in which they are
+-- judged
 unfoldable pub map_fault : ℕ → ℕ → Option Fault
 map_fault map bytes =
     cond (unknown map) (Some (fault UnknownBit 0))
@@ -31,11 +32,15 @@ Shaped map bytes = (required map ≡ true) × (bytes ≡ asked_bytes map)
 
 -- the fault of a card's map or length
 abbrev pub shape_fault : List ℕ → Option Fault
-shape_fault card = cond (nat_lt (length card) map_bytes) (Some (fault BytesMissing (length card))) (map_fault (map_of card) (length card))
+shape_fault card =
+    cond (nat_lt (length card) map_bytes) (Some (fault BytesMissing (length card)))
+    (map_fault (map_of card) (length card))
 
--- the first fault of a card where covers below `least` are refused: no number is judged before map and length are
+-- the first fault of a card where covers below `least` are refused: no number is judged before map
+-- and length are
 abbrev pub fault_by_cover : ℕ → List ℕ → Option Fault
-fault_by_cover least card = first (shape_fault card) (values_fault least (map_of card) (rest_of card))
+fault_by_cover least card =
+    first (shape_fault card) (values_fault least (map_of card) (rest_of card))
 
 -- the first fault of a card
 unfoldable pub card_fault : List ℕ → Option Fault

@@ -26,7 +26,8 @@ abbrev pub first : Option Fault → Option Fault → Option Fault
 first None later = later
 first (Some e) later = Some e
 
--- an answer where `found` is the first fault, if any: that fault, or a value that is as it should be
+-- an answer where `found` is the first fault, if any: that fault, or a value that is as it should
+-- be
 abbrev pub Answers : {T : Type 0} → Option Fault → (T → Type 0) → Result T Fault → Type 0
 Answers found Is (Ok x) = (found ≡ None) × Is x
 Answers found Is (Err e) = found ≡ Some e

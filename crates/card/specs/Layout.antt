@@ -4,8 +4,8 @@ use Rattle.rebar.specs.Grades.{is_concrete, is_steel, is_shear_factor}
 use Rattle.rebar.specs.Ranges.{Range, range, within, widths, heights, covers, aggregates, spans}
 use Rattle.card.specs.declared.layout.Field.{Field}
 use Rattle.card.specs.declared.layout.Field.TheVariants.{Width, Height, Cover, Concrete, Steel, Aggregate, Frame, Span, ShearFactor}
-use Rattle.card.specs.declared.layout.LoadCase.{LoadCase}
-use Rattle.card.specs.declared.layout.LoadCase.TheVariants.{Dead, Live, Wind, Earthquake}
+use Rattle.loads.specs.declared.loads.LoadCase.{LoadCase}
+use Rattle.loads.specs.declared.loads.LoadCase.TheVariants.{Dead, Live, Wind, Earthquake}
 
 -- how many bytes the map takes, at the beginning of a card
 abbrev pub map_bytes : ℕ
@@ -32,7 +32,8 @@ pub record Row : Type 0 where
 
 -- the row of these
 abbrev pub row : ℕ → ℕ → ℕ → (ℕ → ℕ → Bool) → Row
-row bit bytes default allowed = record { bit = bit; bytes = bytes; default = default; allowed = allowed }
+row bit bytes default allowed =
+    record { bit = bit; bytes = bytes; default = default; allowed = allowed }
 
 -- bit, bytes, default and allowed numbers of each field
 abbrev pub layout : Field → Row
@@ -60,7 +61,8 @@ field_count = 13
 -- how many bytes each field takes, by its bit
 abbrev pub sizes : List ℕ
 sizes =
-    map (λ f. (layout f).bytes) (Width ∷ Height ∷ Cover ∷ Concrete ∷ Steel ∷ Aggregate ∷ Frame ∷ Span ∷ ShearFactor ∷ [])
+    map (λ f. (layout f).bytes)
+    (Width ∷ Height ∷ Cover ∷ Concrete ∷ Steel ∷ Aggregate ∷ Frame ∷ Span ∷ ShearFactor ∷ [])
     ++ (24 ∷ 24 ∷ 24 ∷ 24 ∷ [])
 
 -- how many bytes the field of a bit takes

@@ -1,7 +1,7 @@
 -- The map of a card: which fields stand, and where each begins.
 use Rattle.std.specs.Prelude.{◌≡◌, ℕ, zero, suc, ◌+◌, ◌/◌, ◌%◌, ◌^◌, ◌≤◌, Bool, true, cond, ◌&&◌, List, [], ◌∷◌, ◌==◌, nat_le}
 use Rattle.card.specs.declared.layout.Field.TheVariants.{Width, Height, Concrete, Span}
-use Rattle.card.specs.declared.layout.LoadCase.TheVariants.{Dead}
+use Rattle.loads.specs.declared.loads.LoadCase.TheVariants.{Dead}
 use Rattle.card.specs.Layout.{map_bytes, field_count, layout, load_bit, size}
 
 -- whether a bit of the map is set; bit 0 is the lowest
@@ -23,7 +23,13 @@ unknown map = nat_le (2 ^ field_count) map
 
 -- the bits of the fields that may not be absent: 0, 1, 3, 7 and 9
 abbrev pub required_bits : List ℕ
-required_bits = (layout Width).bit ∷ (layout Height).bit ∷ (layout Concrete).bit ∷ (layout Span).bit ∷ load_bit Dead ∷ []
+required_bits =
+    (layout Width).bit
+    ∷ (layout Height).bit
+    ∷ (layout Concrete).bit
+    ∷ (layout Span).bit
+    ∷ load_bit Dead
+    ∷ []
 
 -- whether all of some bits are set
 abbrev pub all_stand : ℕ → List ℕ → Bool

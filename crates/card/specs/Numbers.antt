@@ -12,12 +12,18 @@ use Rattle.card.specs.Map.{stands, offset}
 
 -- a number of one or two bytes
 abbrev pub unsigned_at : List ℕ → ℕ → ℕ → ℕ
-unsigned_at rest at bytes = cond (bytes == 1) (slice_index rest at) (slice_index rest at * 256 + slice_index rest (at + 1))
+unsigned_at rest at bytes =
+    cond (bytes == 1) (slice_index rest at)
+    (slice_index rest at * 256 + slice_index rest (at + 1))
 
 -- a number of four bytes in two's complement
 abbrev pub signed_at : List ℕ → ℕ → ℤ
 signed_at rest at =
-    to_z w32 (slice_index rest at * 16777216 + slice_index rest (at + 1) * 65536 + slice_index rest (at + 2) * 256 + slice_index rest (at + 3))
+    to_z w32
+    (slice_index rest at * 16777216
+    + slice_index rest (at + 1) * 65536
+    + slice_index rest (at + 2) * 256
+    + slice_index rest (at + 3))
 
 -- where moment and shear at midspan begin, in a load case that begins at a place
 abbrev pub mid_place : ℕ → ℕ
@@ -37,11 +43,17 @@ number_fault f least rest at = range_fault ((layout f).allowed least (number_at 
 
 -- what a field says: its number, or what its absence means
 unfoldable pub value : Field → ℕ → List ℕ → ℕ
-value f map rest = cond (stands map (layout f).bit) (number_at f rest (offset map (layout f).bit)) (layout f).default
+value f map rest =
+    cond (stands map (layout f).bit)
+    (number_at f rest (offset map (layout f).bit))
+    (layout f).default
 
 -- an absent field has no fault
 unfoldable pub field_fault : Field → ℕ → ℕ → List ℕ → Option Fault
-field_fault f least map rest = cond (stands map (layout f).bit) (number_fault f least rest (offset map (layout f).bit)) None
+field_fault f least map rest =
+    cond (stands map (layout f).bit)
+    (number_fault f least rest (offset map (layout f).bit))
+    None
 
 -- the fault of a moment or a shear
 unfoldable pub load_fault : List ℕ → ℕ → Option Fault

@@ -1,4 +1,5 @@
--- The numbers of a card in byte order: a bad value is reported at the first of them that is out of range.
+-- The numbers of a card in byte order: a bad value is reported at the first of them that is out of
+-- range.
 use Rattle.std.specs.Prelude.{◌≡◌, ℕ, ◌+◌, Bool, true, false, cond, ◌⊎◌, List, [], ◌∷◌, ◌++◌, Some, Ok, Err, Result}
 use Rattle.std.specs.List.{AllByRecursion}
 use Rattle.loads.specs.Effects.{moderate}
@@ -7,8 +8,8 @@ use Rattle.card.specs.declared.fault.Fault.{Fault}
 use Rattle.card.specs.declared.fault.FaultKind.TheVariants.{OutOfRange}
 use Rattle.card.specs.declared.layout.Field.{Field}
 use Rattle.card.specs.declared.layout.Field.TheVariants.{Width, Height, Cover, Concrete, Steel, Aggregate, Frame, Span, ShearFactor}
-use Rattle.card.specs.declared.layout.LoadCase.{LoadCase}
-use Rattle.card.specs.declared.layout.LoadCase.TheVariants.{Dead, Live, Wind, Earthquake}
+use Rattle.loads.specs.declared.loads.LoadCase.{LoadCase}
+use Rattle.loads.specs.declared.loads.LoadCase.TheVariants.{Dead, Live, Wind, Earthquake}
 use Rattle.card.specs.Card.{shape_fault, map_of, rest_of}
 use Rattle.card.specs.Faults.{fault}
 use Rattle.card.specs.Layout.{map_bytes, effect_bytes, layout, load_bit, least_cover}
@@ -40,19 +41,25 @@ force_at rest at = load_at rest at ∷ load_at rest (at + effect_bytes) ∷ []
 
 -- those of left face, midspan and right face
 abbrev pub forces_at : List ℕ → ℕ → List Number
-forces_at rest at = force_at rest at ++ (force_at rest (mid_place at) ++ force_at rest (right_place at))
+forces_at rest at =
+    force_at rest at ++ (force_at rest (mid_place at) ++ force_at rest (right_place at))
 
 -- the six numbers of a load case, none where the case is absent
 unfoldable pub of_case : LoadCase → ℕ → List ℕ → List Number
-of_case case map rest = cond (stands map (load_bit case)) (forces_at rest (offset map (load_bit case))) []
+of_case case map rest =
+    cond (stands map (load_bit case)) (forces_at rest (offset map (load_bit case))) []
 
 -- all numbers that stand on a card
 abbrev pub numbers : ℕ → ℕ → List ℕ → List Number
 numbers least map rest =
-    (of_field Width least map rest ++ (of_field Height least map rest ++ of_field Cover least map rest))
-    ++ ((of_field Concrete least map rest ++ (of_field Steel least map rest ++ of_field Aggregate least map rest))
-    ++ ((of_field Frame least map rest ++ (of_field Span least map rest ++ of_field ShearFactor least map rest))
-    ++ (of_case Dead map rest ++ (of_case Live map rest ++ (of_case Wind map rest ++ of_case Earthquake map rest)))))
+    (of_field Width least map rest
+    ++ (of_field Height least map rest ++ of_field Cover least map rest))
+    ++ ((of_field Concrete least map rest
+    ++ (of_field Steel least map rest ++ of_field Aggregate least map rest))
+    ++ ((of_field Frame least map rest
+    ++ (of_field Span least map rest ++ of_field ShearFactor least map rest))
+    ++ (of_case Dead map rest
+    ++ (of_case Live map rest ++ (of_case Wind map rest ++ of_case Earthquake map rest)))))
 
 -- every number is in range
 abbrev pub AllFine : List Number → Type 0
@@ -68,7 +75,9 @@ pub record FirstBad (ns : List Number) (e : Fault) : Type 0 where
   pub wrong : bad.fine ≡ false
   pub named : e ≡ fault OutOfRange bad.place
 
--- a card that is taken has every number in range; one that is refused has a fault of map or length, or a first number out of range
+-- a card that is taken has every number in range; one that is refused has a fault of map or length,
+-- or a first number out of range
 abbrev pub Judges : List ℕ → Result Beam Fault → Type 0
 Judges card (Ok beam) = AllFine (numbers least_cover (map_of card) (rest_of card))
-Judges card (Err e) = (shape_fault card ≡ Some e) ⊎ FirstBad (numbers least_cover (map_of card) (rest_of card)) e
+Judges card (Err e) =
+    (shape_fault card ≡ Some e) ⊎ FirstBad (numbers least_cover (map_of card) (rest_of card)) e

@@ -18,7 +18,8 @@ pub record IsBodyOf (card : List ℕ) (least : ℕ) (body : Body) : Type 0 where
 -- the number of a field that begins at a place: it is allowed, or bad
 abbrev pub NumberAs : Field → ℕ → List ℕ → ℕ → Result ℕ Fault → Type 0
 NumberAs f least rest at =
-    Answers (number_fault f least rest at) (λ v. (v ≡ number_at f rest at) × ((layout f).allowed least v ≡ true))
+    Answers (number_fault f least rest at)
+    (λ v. (v ≡ number_at f rest at) × ((layout f).allowed least v ≡ true))
 
 -- the moment or the shear that begins at a place: it is in range, or bad
 abbrev pub LoadAs : List ℕ → ℕ → Result ℤ Fault → Type 0
@@ -26,7 +27,8 @@ LoadAs rest at =
     Answers (load_fault rest at) (λ z. (z ≡ signed_at rest at) × Moderate z)
 
 -- a part of the beam, or the first bad number in it
-abbrev pub Reads : {T : Type 0} → (ℕ → ℕ → List ℕ → Option Fault) → (ℕ → List ℕ → T → Type 0) → Body → Result T Fault → Type 0
+abbrev pub Reads : {T : Type 0} → (ℕ → ℕ → List ℕ → Option Fault) → (ℕ → List ℕ → T → Type 0)
+    → Body → Result T Fault → Type 0
 Reads found Is body =
     Answers (found body.least_cover body.map.bits body.rest.now) (Is body.map.bits body.rest.now)
 
@@ -34,4 +36,5 @@ Reads found Is body =
 abbrev pub FieldAs : Field → Body → Result ℕ Fault → Type 0
 FieldAs f body =
     Answers (field_fault f body.least_cover body.map.bits body.rest.now)
-    (λ v. (v ≡ value f body.map.bits body.rest.now) × ((layout f).allowed body.least_cover v ≡ true))
+    (λ v. (v ≡ value f body.map.bits body.rest.now)
+    × ((layout f).allowed body.least_cover v ≡ true))

@@ -5,7 +5,7 @@ use Rattle.loads.specs.Effects.{Moderate}
 use Rattle.rebar.specs.declared.beam.Beam.{Beam}
 use Rattle.card.specs.declared.fault.Fault.{Fault}
 use Rattle.card.specs.declared.layout.Field.{Field}
-use Rattle.card.specs.declared.layout.LoadCase.{LoadCase}
+use Rattle.loads.specs.declared.loads.LoadCase.{LoadCase}
 use Rattle.card.specs.Card.{map_of, rest_of}
 use Rattle.card.specs.Layout.{map_bytes, effect_bytes, case_numbers, field_count, layout, load_bit, least_cover}
 use Rattle.card.specs.Map.{stands, required_bits, offset, asked_bytes}
@@ -17,11 +17,13 @@ FieldsFine map rest =
     (f : Field) → stands map (layout f).bit ≡ true
     → (layout f).allowed least_cover (number_at f rest (offset map (layout f).bit)) ≡ true
 
--- each load case that stands holds six numbers, moment and shear at the three stations, none beyond the greatest
+-- each load case that stands holds six numbers, moment and shear at the three stations, none beyond
+-- the greatest
 abbrev pub LoadsFine : ℕ → List ℕ → Type 0
 LoadsFine map rest =
     (case : LoadCase) → stands map (load_bit case) ≡ true
-    → (k : ℕ) → k < case_numbers → Moderate (signed_at rest (offset map (load_bit case) + effect_bytes * k))
+    → (k : ℕ) → k < case_numbers
+    → Moderate (signed_at rest (offset map (load_bit case) + effect_bytes * k))
 
 -- a card that is taken
 pub record WellFormed (card : List ℕ) : Type 0 where

@@ -1,7 +1,8 @@
+//! Why a card is refused, and where.
 ghost use Rattle.std.specs.Prelude.{◌≡◌};
 ghost use Rattle.card.specs.Faults.{fault, fault_number};
 
-// Why a card is refused.
+/// Why a card is refused.
 #[derive(Clone, Copy, Debug, PartialEq, Eq)]
 pub enum FaultKind {
     BytesMissing,
@@ -11,7 +12,7 @@ pub enum FaultKind {
     OutOfRange,
 }
 
-// The fault of a card: its kind, and the byte of the card where it lies.
+/// The fault of a card: its kind, and the byte of the card where it lies.
 #[derive(Clone, Copy, Debug, PartialEq, Eq)]
 pub struct Fault {
     pub kind: FaultKind,
@@ -27,7 +28,7 @@ impl FaultKind {
     }
 }
 
-// The number under which a fault is reported.
+/// The number under which a fault is reported.
 impl From<FaultKind> for u8 {
     ghost from_gives = { λ kind number. number ≡ fault_number kind };
 

@@ -1,6 +1,8 @@
+//! The fields of a card: bit, default, allowed values.
 ghost use Rattle.std.specs.Prelude.{◌≡◌, ℕ, ◌<◌, ◌⊎◌};
 ghost use Rattle.card.specs.Layout.{field_count, layout, load_bit, size, field_size, case_size};
 
+use loads::LoadCase;
 use rebar::materials::{is_concrete, is_steel};
 use rebar::member::is_shear_factor;
 
@@ -15,8 +17,8 @@ pub(crate) trait Mapped: Copy {
 
     // The field's bit in the map.
     fn bit(self) -> usize
-        ensures is { result ≡ bit self }
-        ensures known { result < field_count };
+        ensures bit_of_the_field { result ≡ bit self }
+        ensures one_of_the_known { result < field_count };
 
     // The table of sizes says how many bytes the field takes.
     ghost sized: { (field : Self) → size (bit field) ≡ bytes field };
@@ -36,15 +38,6 @@ pub(crate) enum Field {
     ShearFactor,
 }
 
-// The fields of a load case: six numbers each.
-#[derive(Clone, Copy)]
-pub(crate) enum LoadCase {
-    Dead = 9,
-    Live,
-    Wind,
-    Earthquake,
-}
-
 impl Mapped for Field {
     ghost bit = { λ field. (layout field).bit };
 
@@ -57,6 +50,7 @@ impl Mapped for Field {
     }
 }
 
+// The fields of a load case, six numbers each, follow those of one number.
 impl Mapped for LoadCase {
     ghost bit = { load_bit };
 
@@ -65,20 +59,21 @@ impl Mapped for LoadCase {
     ghost sized = { case_size };
 
     fn bit(self) -> usize {
-        self as usize
+        9 + self as usize
     }
 }
 
 impl Field {
     // How many bytes the field takes.
     pub(crate) fn bytes(self) -> usize
-        ensures is { result ≡ (layout self).bytes }
+        ensures bytes_of_the_row { result ≡ (layout self).bytes }
         ensures one_or_two { (result ≡ 1) ⊎ (result ≡ 2) }
     {
         SIZES[self.bit()]
     }
 
-    // What it means that the field is absent. The fields of the last line are required, and never absent.
+    // What it means that the field is absent. The fields of the last line are required, and never
+    // absent.
     pub(crate) fn default(self) -> u16
         ensures { result ≡ (layout self).default }
     {

@@ -1,12 +1,12 @@
+//! The numbers of a load case.
 ghost use Rattle.std.specs.Prelude.{◌≡◌, ◌+◌, ◌≤◌, length};
-ghost use Rattle.loads.specs.Effects.{moderate};
 ghost use Rattle.card.specs.Faults.{Answers};
 ghost use Rattle.card.specs.Parts.{force_fault, forces_fault, ForceAt, ForcesAt};
 ghost use Rattle.card.specs.Reads.{LoadAs};
 
 use crate::fault::Fault;
 use crate::number::out_of_range;
-use loads::loads::{Case, Force};
+use loads::{Case, Force, is_moderate};
 
 // N bytes of the rest, and where they begin.
 #[derive(Clone, Copy)]
@@ -20,21 +20,14 @@ impl<'a, const N: usize> Bytes<'a, N> {
     // M of the bytes, from one of them on.
     fn part<const M: usize>(&self, from: usize) -> Bytes<'a, M>
         requires { from + M ≤ N }
-        ensures rest { result.rest.now ≡ self.now.rest.now }
-        ensures at { result.at ≡ self.now.at + from }
+        ensures same_bytes { result.rest.now ≡ self.now.rest.now }
+        ensures from_this_one_on { result.at ≡ self.now.at + from }
     {
         Bytes {
             rest: self.rest,
             at: self.at + from,
         }
     }
-}
-
-// Whether a moment or a shear is in range.
-fn is_moderate(load: i32) -> bool
-    ensures { result ≡ moderate load }
-{
-    (-100_000..=100_000).contains(&load)
 }
 
 impl Bytes<'_, 4> {
@@ -55,7 +48,8 @@ impl Bytes<'_, 4> {
 impl Bytes<'_, 8> {
     // A moment and a shear, or their first fault.
     fn force(&self) -> Result<Force, Fault>
-        ensures { Answers (force_fault self.now.rest.now self.now.at) (ForceAt self.now.rest.now self.now.at) result }
+        ensures { Answers (force_fault self.now.rest.now self.now.at)
+            (ForceAt self.now.rest.now self.now.at) result }
     {
         Ok(Force {
             moment: self.part::<4>(0).load()?,
@@ -68,7 +62,8 @@ impl Bytes<'_, 24> {
     // The three forces of a load case, or their first fault.
     #[tactic(auto, using(crate::proofs::Offsets::shifts))]
     pub(crate) fn forces(&self) -> Result<Case, Fault>
-        ensures { Answers (forces_fault self.now.rest.now self.now.at) (ForcesAt self.now.rest.now self.now.at) result }
+        ensures { Answers (forces_fault self.now.rest.now self.now.at)
+            (ForcesAt self.now.rest.now self.now.at) result }
     {
         Ok(Case {
             left: self.part::<8>(0).force()?,

@@ -1,10 +1,12 @@
+//! Which fields stand on a card, and where each begins.
 ghost use Rattle.std.specs.Prelude.{◌≡◌, ◌<◌, ◌≤◌, false, MatchOption};
 ghost use Rattle.card.specs.Card.{map_fault, Shaped};
 ghost use Rattle.card.specs.Faults.{Answers};
 ghost use Rattle.card.specs.Map.{stands, unknown, required, offset, Begins};
 
 use crate::fault::{Fault, FaultKind};
-use crate::layout::{Field, LoadCase, Mapped, SIZES};
+use crate::layout::{Field, Mapped, SIZES};
+use loads::LoadCase;
 use std::cmp::Ordering;
 
 // The map of a card: a bit for each field, set where the field stands on the card.
@@ -53,8 +55,8 @@ impl Map {
     #[tactic(auto, using(crate::proofs::Offsets::steps))]
     fn offset(self, bit: usize) -> usize
         requires { bit ≤ 13 }
-        ensures is { result ≡ offset self.bits bit }
-        ensures small { result ≤ 312 }
+        ensures bytes_below_the_bit { result ≡ offset self.bits bit }
+        ensures at_most_24_for_each_bit { result ≤ 312 }
     {
         let mut at: usize = 0;
         for (k, bytes) in SIZES[..bit].iter().enumerate() {
@@ -68,7 +70,9 @@ impl Map {
     // Where a field begins, counted from the first byte after the map, if it stands on the card.
     #[tactic(auto, using(crate::proofs::Offsets::begins))]
     pub(crate) fn place<F: Mapped>(self, field: F) -> Option<usize>
-        ensures { MatchOption result (stands self.bits (F.bit field) ≡ false) (Begins self.bits (F.bit field) (F.bytes field)) }
+        ensures { MatchOption result
+            (stands self.bits (F.bit field) ≡ false)
+            (Begins self.bits (F.bit field) (F.bytes field)) }
     {
         self.has(field).then(|| self.offset(field.bit()))
     }

@@ -1,3 +1,4 @@
+//! The numbers of fields, the high byte first.
 ghost use Rattle.std.specs.Prelude.{◌≡◌, ◌+◌, ◌^◌, ◌<◌, ◌≤◌, length};
 ghost use Rattle.card.specs.Faults.{fault};
 ghost use Rattle.card.specs.declared.fault.FaultKind.TheVariants.{OutOfRange};
@@ -7,8 +8,8 @@ ghost use Rattle.card.specs.Reads.{NumberAs};
 use crate::fault::{Fault, FaultKind};
 use crate::layout::Field;
 
-// The fault of a number that is out of its range. The number begins at a byte of the rest; two bytes of map stand
-// before that.
+// The fault of a number that is out of its range. The number begins at a byte of the rest; two
+// bytes of map stand before that.
 pub(crate) fn out_of_range(at: usize) -> Fault
     requires { map_bytes + at < 2 ^ 64 }
     ensures { result ≡ fault OutOfRange (map_bytes + at) }

@@ -1,3 +1,4 @@
+//! The card as it comes in.
 ghost use Rattle.rebar.specs.Ranges.{Within};
 ghost use Rattle.card.specs.Card.{CardByCover, CardAs, OfNoOther};
 ghost use Rattle.card.specs.Layout.{least_covers};
@@ -6,7 +7,7 @@ ghost use Rattle.card.specs.WellFormed.{TakenExactly};
 
 use crate::body::Body;
 use crate::fault::Fault;
-use rebar::beam::Beam;
+use rebar::Beam;
 
 // The least cover, in mm.
 const LEAST_COVER: u16 = 20;
@@ -21,7 +22,7 @@ fn read(card: &[u8], least_cover: u16) -> Result<Beam, Fault>
     Ok(beam)
 }
 
-// The beam of a card, or the card's first fault.
+/// The beam of a card, or the card's first fault.
 #[tactic(auto, using(crate::proofs::First::judges, crate::proofs::One::only_beam, crate::proofs::WellFormed::taken_exactly), unfolding(crate::specs::Card::card_fault))]
 pub fn read_card(card: &[u8]) -> Result<Beam, Fault>
     ensures beam_or_fault { CardAs card.now result }

@@ -35,7 +35,7 @@ same_actions a b p q r s =
       top = q i;
       shear = r i;
       gravity = s i;
-      bounded = is_prop→PathP (λ j. (p j ≤ 3800000) × (q j ≤ 3800000) × (r j ≤ 3800000) × (s j ≤ 2800000)) (λ j. hlevel le_prop) a.bounded b.bounded i;
+      none_above_its_greatest = is_prop→PathP (λ j. (p j ≤ 3800000) × (q j ≤ 3800000) × (r j ≤ 3800000) × (s j ≤ 2800000)) (λ j. hlevel le_prop) a.none_above_its_greatest b.none_above_its_greatest i;
     }
 
 same_size : (m n : ℕ) (z : ℤ) → pos m ≡ z → pos n ≡ z → m ≡ n

@@ -1,5 +1,8 @@
-// What acts on a beam.
+//! What acts on a beam.
 #![tactic(auto)]
 
-pub mod actions; // factored actions of a set of loads
-pub mod loads; // moments and shears of four load cases at three stations
+pub mod actions;
+pub mod loads;
+
+pub use actions::Actions;
+pub use loads::{Case, Force, LoadCase, Loads, is_moderate};

@@ -1,4 +1,5 @@
--- How the derived comparisons of cages compare: what `==`, `<` and `cmp`, a sort and a map of cages go by.
+-- How the derived comparisons of cages compare: what `==`, `<` and `cmp`, a sort and a map of cages
+-- go by.
 use Rattle.std.specs.Prelude.{Bool, Option}
 use Rattle.std.specs.declared.cmp.Ordering.{Ordering}
 use Rattle.rebar.specs.declared.cage.Cage.{Cage}

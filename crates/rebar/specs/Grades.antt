@@ -73,4 +73,5 @@ block_factor_of f = slice_index block_factors (grade_place f)
 
 -- ρ, the least ratio of tension steel, in ten-thousandths
 unfoldable pub least_ratio_of : ℕ → ℕ → ℕ
-least_ratio_of f fy = slice_index (cond (fy == lower_steel) least_ratios_2800 least_ratios_4200) (grade_place f)
+least_ratio_of f fy =
+    slice_index (cond (fy == lower_steel) least_ratios_2800 least_ratios_4200) (grade_place f)

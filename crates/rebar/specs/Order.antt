@@ -5,7 +5,13 @@ use Rattle.rebar.specs.declared.cage.Cage.{Cage}
 -- the six numbers of a cage, in their order
 abbrev pub numbers : Cage → List ℕ
 numbers cage =
-    cage.bottom.mark ∷ cage.bottom.number ∷ cage.top.mark ∷ cage.top.number ∷ cage.ties.mark ∷ cage.ties.spacing ∷ []
+    cage.bottom.mark
+    ∷ cage.bottom.number
+    ∷ cage.top.mark
+    ∷ cage.top.number
+    ∷ cage.ties.mark
+    ∷ cage.ties.spacing
+    ∷ []
 
 -- the first number that differs is the smaller
 abbrev pub Before : List ℕ → List ℕ → Type 0

@@ -13,7 +13,9 @@ hook ties = max 75 ((6 * bar_diameter ties.mark + 9) / 10)
 -- a tie goes round inside the cover and ends in two hooks
 unfoldable pub tie_length : Beam → Ties → ℕ
 tie_length beam ties =
-    2 * (beam.section.width - 2 * beam.section.cover) + 2 * (beam.section.height - 2 * beam.section.cover) + 2 * hook ties
+    2 * (beam.section.width - 2 * beam.section.cover)
+    + 2 * (beam.section.height - 2 * beam.section.cover)
+    + 2 * hook ties
 
 -- the span less 50 mm at each end, in spacings rounded up, and one tie more
 unfoldable pub tie_count : Beam → Ties → ℕ

@@ -1,13 +1,14 @@
+//! A beam with its actions.
 ghost use Rattle.std.specs.Prelude.{◌≡◌};
 ghost use Rattle.loads.specs.Actions.{ActionsOf};
 
 use crate::materials::Materials;
 use crate::member::Member;
 use crate::section::Section;
-use loads::actions::Actions;
-use loads::loads::Loads;
+use loads::{Actions, Loads};
 
-// A beam. It carries the factored actions of its loads, so that they are computed once and not at every question.
+/// A beam. It carries the factored actions of its loads, so that they are computed once and not at
+/// every question.
 #[derive(Clone, Copy)]
 pub struct Beam {
     pub section: Section,
@@ -19,9 +20,10 @@ pub struct Beam {
 }
 
 impl Beam {
-    // A beam of these parts, with the actions of its loads.
+    /// A beam of these parts, with the actions of its loads.
     pub fn new(section: Section, materials: Materials, member: Member, loads: Loads) -> Beam
-        ensures of_these_parts { (result.section ≡ section) × (result.materials ≡ materials) × (result.member ≡ member) × (result.loads ≡ loads) }
+        ensures of_these_parts { (result.section ≡ section) × (result.materials ≡ materials)
+            × (result.member ≡ member) × (result.loads ≡ loads) }
     {
         let actions = Actions::of(&loads);
         Beam {

@@ -1,11 +1,16 @@
-// The vocabulary: what beams and cages are, and the steel of a cage.
+//! The vocabulary: what beams and cages are, and the steel of a cage.
 #![tactic(auto)]
 
-pub mod beam; // a beam with its actions
-pub mod cage; // bars of a face, ties, cages
-mod from_numbers; // bars, ties and parts of a beam from numbers that may be out of range
-mod marks; // diameter and area by bar mark
-pub mod materials; // concrete, steel, aggregate, and the tables of the grades
-pub mod member; // span, frame and shear factor
-pub mod section; // width, height, cover
-mod steel; // the steel of bars, ties and cages in a beam
+pub mod beam;
+pub mod cage;
+mod marks;
+pub mod materials;
+pub mod member;
+pub mod section;
+mod steel;
+
+pub use beam::Beam;
+pub use cage::{Bars, Cage, Ties};
+pub use materials::Materials;
+pub use member::Member;
+pub use section::Section;

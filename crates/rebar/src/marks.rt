@@ -1,3 +1,4 @@
+//! Diameter and area by bar mark (ASTM A615).
 ghost use Rattle.std.specs.Prelude.{◌≡◌, ◌≤◌};
 ghost use Rattle.rebar.specs.Marks.{bar_diameter, bar_area};
 ghost use Rattle.rebar.specs.Ranges.{Within, main_marks, tie_marks};
@@ -54,8 +55,9 @@ pub(crate) fn size_of(mark: u8) -> Size
     requires { Within main_marks mark }
     ensures diameter { result.diameter ≡ bar_diameter mark }
     ensures area { result.area ≡ bar_area mark }
-    ensures bounded { (result.diameter ≤ 358) × (result.area ≤ 1006) }
-    ensures thin { Within tie_marks mark → (result.diameter ≤ 159) × (result.area ≤ 199) }
+    ensures at_most_the_greatest_of_each { (result.diameter ≤ 358) × (result.area ≤ 1006) }
+    ensures at_most_the_greatest_of_ties { Within tie_marks mark
+        → (result.diameter ≤ 159) × (result.area ≤ 199) }
 {
     SIZES[(mark - 3) as usize]
 }

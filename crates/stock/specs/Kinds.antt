@@ -17,4 +17,6 @@ known Tie mark = within tie_marks mark
 
 -- the kind with this number, or the number where no kind has it
 abbrev pub IsKindOf : ℕ → Result Kind UnknownKind → Type 0
-IsKindOf number r = MatchResult r (λ kind. kind_number kind ≡ number) (λ e. (e.0 ≡ number) × ((k : Kind) → kind_number k ≢ number))
+IsKindOf number r =
+    MatchResult r (λ kind. kind_number kind ≡ number)
+    (λ e. (e.0 ≡ number) × ((k : Kind) → kind_number k ≢ number))

@@ -1,7 +1,8 @@
+//! The kinds of bar marks: main bars and ties.
 ghost use Rattle.std.specs.Prelude.{◌≡◌};
 ghost use Rattle.stock.specs.Kinds.{known, IsKindOf};
 
-// What a bar mark is stocked for: the bars of a face, or ties.
+/// What a bar mark is stocked for: the bars of a face, or ties.
 #[derive(Clone, Copy, Debug, PartialEq, Eq)]
 pub enum Kind {
     Main,
@@ -20,11 +21,11 @@ impl Kind {
     }
 }
 
-// A number that no kind has.
+/// A number that no kind has.
 #[derive(Clone, Copy, Debug, PartialEq, Eq)]
 pub struct UnknownKind(pub u8);
 
-// The kind with a number, where there is one.
+/// The kind with a number, where there is one: 0 main bars, 1 ties.
 impl TryFrom<u8> for Kind {
     type Error = UnknownKind;
 

@@ -1,6 +1,10 @@
-// The stock of bar marks.
+//! The stock of bar marks.
 #![tactic(auto)]
 
-pub mod kind; // main bars and ties
-pub mod stock; // which marks are in
-pub mod stock_mark; // a mark that the yard knows in its kind
+pub mod kind;
+pub mod stock;
+pub mod stock_mark;
+
+pub use kind::{Kind, UnknownKind};
+pub use stock::Stock;
+pub use stock_mark::StockMark;

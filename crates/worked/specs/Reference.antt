@@ -85,7 +85,7 @@ reference_loads = record { dead = dead; live = live; wind = no_load; earthquake 
 
 -- its actions, with a bottom moment put in
 abbrev pub actions_with : (m : ℕ) → T (nat_le m 3800000) → Actions
-actions_with m t = record { bottom = m; top = 96000; shear = 124000; gravity = 124000; bounded = (lit≤ t, lit≤ tt, lit≤ tt, lit≤ tt) }
+actions_with m t = record { bottom = m; top = 96000; shear = 124000; gravity = 124000; none_above_its_greatest = (lit≤ t, lit≤ tt, lit≤ tt, lit≤ tt) }
 
 -- what the loads make
 abbrev pub reference_actions : Actions

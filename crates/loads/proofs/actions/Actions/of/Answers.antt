@@ -13,7 +13,7 @@ found c =
     e.most_gravity e.least_gravity
 
 pub invariant_of-result : goal.invariant_of-result
-invariant_of-result c = record { bounded = four_within c.args.loads.now _ _ _ _ (found c) }
+invariant_of-result c = record { none_above_its_greatest = four_within c.args.loads.now _ _ _ _ (found c) }
 
 pub returns : goal.returns
 returns c =

@@ -1,7 +1,7 @@
 use Rattle.std.proofs.Common.{◌≡◌, List, ◌∷◌, ℤ, refl, arith}
 use Rattle.std.proofs.lemmas.Int.{ints}
 use Rattle.loads.specs.Combinations.{rows}
-use Rattle.loads.proofs.actions.combinations.Effect.combined.Goals as goal
+use Rattle.loads.proofs.actions.Effect.combined.Goals as goal
 
 cons : {x y : ℤ} {xs ys : List ℤ} → x ≡ y → xs ≡ ys → x ∷ xs ≡ y ∷ ys
 cons p q = λ i. p i ∷ q i

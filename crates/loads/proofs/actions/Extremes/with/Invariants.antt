@@ -1,6 +1,6 @@
 use Rattle.std.proofs.Common.{◌≡◌, take, fold}
 use Rattle.std.specs.Int.{int_max, int_min}
-use Rattle.loads.proofs.actions.combinations.Extremes.with.Given as goal
+use Rattle.loads.proofs.actions.Extremes.with.Given as goal
 
 abbrev pub invariant-loop-sum : goal.invariant-loop-sum
 invariant-loop-sum l =
