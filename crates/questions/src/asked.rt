@@ -1,8 +1,7 @@
 use crate::case::Case;
 use crate::counted::Counted;
 use crate::least::least_questions;
-use books::frame::Frame;
-use books::general::General;
+use books::pile::STANDARD_PILE;
 use search::decision::Decision;
 use search::lightest::design;
 use std::alloc::{AllocError, Global};
@@ -21,7 +20,7 @@ impl Asked {
     // What the search asks of the frame layer over the general book.
     pub(crate) fn of(heap: Global, case: &Case) -> Result<Asked, AllocError> {
         let pile = Counted {
-            below: Frame { below: General },
+            below: STANDARD_PILE,
             questions: Cell::new(0),
         };
         let decision = design(&pile, &case.beam, &case.stock);

@@ -5,8 +5,8 @@ ghost use Rattle.rebar.specs.Order.{numbers};
 
 use crate::reference::beam;
 use books::book::Book;
-use books::frame::Frame;
 use books::general::General;
+use books::pile::STANDARD_PILE;
 use rebar::beam::Beam;
 use rebar::cage::{Bars, Cage, Ties};
 use search::decision::Decision;
@@ -124,8 +124,7 @@ fn heavier_ties(rt: HostRuntime) -> Result<(), Fail> {
 
 #[test]
 fn bars_too_thick(rt: HostRuntime) -> Result<(), Fail> {
-    let pile = Frame { below: General };
-    let found = design(&pile, &beam(true)?, &stock_of(11, 3)?);
+    let found = design(&STANDARD_PILE, &beam(true)?, &stock_of(11, 3)?);
     let Decision::Impossible(number) = found else {
         return Err(Fail::new("no cage passes"));
     };
