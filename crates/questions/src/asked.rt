@@ -3,7 +3,7 @@ use crate::counted::Counted;
 use crate::least::least_questions;
 use books::pile::STANDARD_PILE;
 use search::decision::Decision;
-use search::lightest::design;
+use search::lightest::lightest_cage;
 use std::alloc::{AllocError, Global};
 use std::cell::Cell;
 use std::fmt;
@@ -23,7 +23,7 @@ impl Asked {
             below: STANDARD_PILE,
             questions: Cell::new(0),
         };
-        let decision = design(&pile, &case.beam, &case.stock);
+        let decision = lightest_cage(&pile, &case.beam, &case.stock);
         let least = least_questions(heap, case, &decision)?;
         Ok(Asked {
             decision,
