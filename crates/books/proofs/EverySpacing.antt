@@ -10,9 +10,8 @@ use Rattle.rebar.specs.declared.cage.Ties.{Ties}
 use Rattle.rebar.specs.declared.cage.Cage.{Cage}
 use Rattle.books.specs.Rules.{over, first_broken}
 use Rattle.books.specs.Answers.{with_ties, AtEverySpacing}
-use Rattle.books.specs.Articles.{of_bars, in_shear, general}
 use Rattle.books.specs.Numbers.{z_of}
-use Rattle.books.specs.General.{articles_for, refusal_of_bars, general_answer}
+use Rattle.books.specs.General.{of_bars, in_shear, general, articles_for, refusal_of_bars, general_answer}
 use Rattle.books.proofs.Reflect.{joined, when_own, when_lower}
 
 -- where the articles of the bars refuse, the general book answers their number

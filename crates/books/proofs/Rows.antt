@@ -9,7 +9,7 @@ use Rattle.loads.specs.declared.actions.Actions.{Actions}
 use Rattle.rebar.specs.declared.beam.Beam.{Beam}
 use Rattle.rebar.specs.declared.cage.Cage.{Cage}
 use Rattle.rebar.proofs.Dictionary.{same_cage_exactly}
-use Rattle.books.specs.declared.approved_row.ApprovedRow.{ApprovedRow}
+use Rattle.books.specs.declared.approved.ApprovedRow.{ApprovedRow}
 use Rattle.books.specs.Approved.{IsFor, Allows, is_for, allows, approves, approved_answer, NoneIsFor, NoneOfThemAllows, OneAllows}
 
 pub decides_for : (row : ApprovedRow) (beam : Beam) (cage : Cage) → Decides (is_for row beam cage) (IsFor row beam cage)

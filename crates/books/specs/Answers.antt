@@ -14,4 +14,5 @@ with_ties cage ties = record { bottom = cage.bottom; top = cage.top; ties = ties
 
 -- n refuses a cage, and whatever the spacing of its ties were, the answer would be n
 abbrev pub AtEverySpacing : (Beam → Cage → ℕ) → Beam → Cage → ℕ → Type 0
-AtEverySpacing answer beam cage n = (n ≢ 0) × ((ties : Ties) → ties.mark ≡ cage.ties.mark → answer beam (with_ties cage ties) ≡ n)
+AtEverySpacing answer beam cage n =
+    (n ≢ 0) × ((ties : Ties) → ties.mark ≡ cage.ties.mark → answer beam (with_ties cage ties) ≡ n)

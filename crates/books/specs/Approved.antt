@@ -1,4 +1,5 @@
--- The approved book: rows that each approve a cage in a section of certain grades, up to three actions.
+-- The approved book: rows that each approve a cage in a section of certain grades, up to three
+-- actions.
 use Rattle.std.specs.Prelude.{◌≡◌, ℕ, ◌≤◌, Bool, ◌&&◌, cond, ◌==◌, nat_le, nat_eq, List}
 use Rattle.std.specs.List.{All, Any, list_any}
 use Rattle.std.specs.Cmp.Lexicographic.{pointwise}
@@ -6,17 +7,19 @@ use Rattle.loads.specs.declared.actions.Actions.{Actions}
 use Rattle.rebar.specs.declared.beam.Beam.{Beam}
 use Rattle.rebar.specs.declared.cage.Cage.{Cage}
 use Rattle.rebar.specs.Order.{numbers}
-use Rattle.books.specs.declared.approved_row.ApprovedRow.{ApprovedRow}
+use Rattle.books.specs.declared.approved.ApprovedRow.{ApprovedRow}
 
 -- a row has this beam's section and grades, and this cage
 abbrev pub IsFor : ApprovedRow → Beam → Cage → Type 0
 IsFor row beam cage =
-    (row.width ≡ beam.section.width) × (row.height ≡ beam.section.height) × (row.concrete ≡ beam.materials.concrete)
-    × (row.steel ≡ beam.materials.steel) × (row.cage ≡ cage)
+    (row.width ≡ beam.section.width) × (row.height ≡ beam.section.height)
+    × (row.concrete ≡ beam.materials.concrete) × (row.steel ≡ beam.materials.steel)
+    × (row.cage ≡ cage)
 
 -- a row allows the actions, each up to and including its number
 abbrev pub Allows : ApprovedRow → Actions → Type 0
-Allows row actions = (actions.bottom ≤ row.bottom) × (actions.top ≤ row.top) × (actions.shear ≤ row.shear)
+Allows row actions =
+    (actions.bottom ≤ row.bottom) × (actions.top ≤ row.top) × (actions.shear ≤ row.shear)
 
 -- the number where no row is for a beam and a cage
 abbrev pub no_row : ℕ
@@ -33,7 +36,8 @@ NoneIsFor rows beam cage = All (λ row. ¬ IsFor row beam cage) rows
 -- some are, and none of these allows all three actions
 abbrev pub NoneOfThemAllows : List ApprovedRow → Beam → Cage → Type 0
 NoneOfThemAllows rows beam cage =
-    Any (λ row. IsFor row beam cage) rows × All (λ row. IsFor row beam cage → ¬ Allows row beam.actions) rows
+    Any (λ row. IsFor row beam cage) rows
+    × All (λ row. IsFor row beam cage → ¬ Allows row beam.actions) rows
 
 -- one single row is for them and allows all three
 abbrev pub OneAllows : List ApprovedRow → Beam → Cage → Type 0
@@ -42,8 +46,9 @@ OneAllows rows beam cage = Any (λ row. IsFor row beam cage × Allows row beam.a
 -- whether a row is for them, computed
 unfoldable pub is_for : ApprovedRow → Beam → Cage → Bool
 is_for row beam cage =
-    row.width == beam.section.width && row.height == beam.section.height && row.concrete == beam.materials.concrete
-    && row.steel == beam.materials.steel && pointwise nat_eq (numbers row.cage) (numbers cage)
+    row.width == beam.section.width && row.height == beam.section.height
+    && row.concrete == beam.materials.concrete && row.steel == beam.materials.steel
+    && pointwise nat_eq (numbers row.cage) (numbers cage)
 
 -- whether it allows the actions, computed
 unfoldable pub allows : ApprovedRow → Actions → Bool
@@ -57,4 +62,5 @@ approves beam cage row = is_for row beam cage && allows row beam.actions
 -- the book's meaning
 unfoldable pub approved_answer : List ApprovedRow → Beam → Cage → ℕ
 approved_answer rows beam cage =
-    cond (list_any (approves beam cage) rows) 0 (cond (list_any (λ row. is_for row beam cage) rows) none_allows no_row)
+    cond (list_any (approves beam cage) rows) 0
+    (cond (list_any (λ row. is_for row beam cage) rows) none_allows no_row)

@@ -10,16 +10,26 @@ use Rattle.rebar.specs.declared.cage.Ties.{Ties}
 use Rattle.rebar.specs.declared.cage.Cage.{Cage}
 use Rattle.books.specs.Rules.{Rule, ◌≼◌, ◌≺◌, ◌and◌, Article, article, first_broken}
 use Rattle.books.specs.Numbers.{d_of, q_of, z_of, vc_of, vm_of, vs_of}
-use Rattle.books.specs.Articles.{least_steel, section_bears, ties_bear}
+use Rattle.books.specs.General.{least_steel, section_bears, ties_bear}
+use Rattle.books.specs.declared.face.Face.{Face}
+use Rattle.books.specs.declared.face.Faces.{Faces}
 
 -- the probable moment of a face, rounded up; the bracket stops at 0
 abbrev pub probable_moment : Section → Materials → ℕ → ℕ → ℕ
 probable_moment s m q d =
-    (5 * q * (17 * m.concrete * s.width * d - 12500 * q) + (680 * m.concrete * s.width - 1)) / (680 * m.concrete * s.width)
+    (5 * q * (17 * m.concrete * s.width * d - 12500 * q) + (680 * m.concrete * s.width - 1))
+    / (680 * m.concrete * s.width)
 
 -- j, the shear that the two probable moments make over the span, rounded up
 abbrev pub moment_shear : ℕ → ℕ → ℕ → ℕ
 moment_shear span bottom top = (10 * (bottom + top) + (span - 1)) / span
+
+-- j, the shear that the probable moments of two faces make over the span
+abbrev pub shear_of_moments : Faces → ℕ
+shear_of_moments faces =
+    let moment : Face → ℕ =
+    λ face. probable_moment face.beam.now.section face.beam.now.materials face.force face.depth in
+    moment_shear faces.beam.now.member.span (moment faces.bottom) (moment faces.top)
 
 -- 23, 24: the most steel
 abbrev pub most_steel : Section → ℕ → ℕ → Rule
@@ -37,7 +47,8 @@ close_in_frame t z = 40 * t.spacing ≼ z and t.spacing ≼ 120
 abbrev pub relied_on : ℕ → ℕ → ℕ → ℕ
 relied_on g j vc = cond (nat_le (2 * j) (g + j)) vc 0
 
--- articles 27 and 28, of gravity shear g and moment shear j at an effective depth z (R-033, Articles 128 to 130)
+-- articles 27 and 28, of gravity shear g and moment shear j at an effective depth z
+-- (R-033, Articles 128 to 130)
 abbrev pub in_frame_shear : Section → Materials → ℕ → ℕ → ℕ → Ties → ℕ → List Article
 in_frame_shear s m p g j t z =
     article 27 (section_bears p (g + j) (vm_of s m z))
@@ -51,7 +62,9 @@ frame s m member a c =
     let d : ℕ = d_of s m t c.bottom in
     let e : ℕ = d_of s m t c.top in
     let z : ℕ = z_of s m c in
-    let j : ℕ = moment_shear member.span (probable_moment s m (q_of m c.bottom) d) (probable_moment s m (q_of m c.top) e) in
+    let bottom : ℕ = probable_moment s m (q_of m c.bottom) d in
+    let top : ℕ = probable_moment s m (q_of m c.top) e in
+    let j : ℕ = moment_shear member.span bottom top in
     article 21 (least_steel s m (face_area c.bottom) d)
     ∷ article 22 (least_steel s m (face_area c.top) e)
     ∷ article 23 (most_steel s (face_area c.bottom) d)
@@ -62,7 +75,8 @@ frame s m member a c =
 
 -- those for a beam: none where it belongs to no such frame
 abbrev pub frame_articles_for : Beam → Cage → List Article
-frame_articles_for b c = cond b.member.in_frame (frame b.section b.materials b.member b.actions c) []
+frame_articles_for b c =
+    cond b.member.in_frame (frame b.section b.materials b.member b.actions c) []
 
 -- what the layer answers of its own
 unfoldable pub frame_answer : Beam → Cage → ℕ

@@ -1,8 +1,6 @@
 pub mod Answers
-pub mod Asked
 pub mod Rules
 pub mod Numbers
-pub mod Articles
 pub mod General
 pub mod Frame
 pub mod Faces

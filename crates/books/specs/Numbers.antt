@@ -8,7 +8,8 @@ use Rattle.rebar.specs.declared.cage.Bars.{Bars}
 use Rattle.rebar.specs.declared.cage.Ties.{Ties}
 use Rattle.rebar.specs.declared.cage.Cage.{Cage}
 
--- the clear distance between the rows of a face, and between the two faces, in tenths of a mm (R-033, Articles 115 and 117)
+-- the clear distance between the rows of a face, and between the two faces, in tenths of a mm
+-- (R-033, Articles 115 and 117)
 abbrev pub clear_distance : ℕ
 clear_distance = 250
 
@@ -38,16 +39,19 @@ outer_of s m t x = cond (nat_le (row_length m x x.number) (room s t)) x.number (
 
 -- what the effective depth loses to a second row, in tenths, rounded up
 abbrev pub second_row_loss : Bars → ℕ
-second_row_loss x = ((bar_diameter x.mark + clear_distance) * (x.number / 2) + (x.number - 1)) / x.number
+second_row_loss x =
+    ((bar_diameter x.mark + clear_distance) * (x.number / 2) + (x.number - 1)) / x.number
 
 -- the effective depth of a face whose bars lie in k rows, in tenths of a mm
 abbrev pub effective_depth : Section → Ties → Bars → ℕ → ℕ
 effective_depth s t x k =
-    10 * s.height - 10 * s.cover - bar_diameter t.mark - (bar_diameter x.mark + 1) / 2 - (k - 1) * second_row_loss x
+    10 * s.height - 10 * s.cover - bar_diameter t.mark - (bar_diameter x.mark + 1) / 2
+    - (k - 1) * second_row_loss x
 
 -- how deep k rows of a face's bars stand into the section, in tenths
 abbrev pub rows_depth : Section → Ties → Bars → ℕ → ℕ
-rows_depth s t x k = 10 * s.cover + bar_diameter t.mark + bar_diameter x.mark * k + clear_distance * (k - 1)
+rows_depth s t x k =
+    10 * s.cover + bar_diameter t.mark + bar_diameter x.mark * k + clear_distance * (k - 1)
 
 -- d, the effective depth of a face
 abbrev pub d_of : Section → Materials → Ties → Bars → ℕ

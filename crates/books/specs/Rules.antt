@@ -1,5 +1,7 @@
 -- Articles as inequalities between numbers, and the first of a list that does not hold.
-use Rattle.std.specs.Prelude.{◌≡◌, ℕ, ◌<◌, ◌≤◌, Bool, cond, ◌&&◌, ◌||◌, ◌≢◌, ◌⊎◌, List, [], ◌∷◌, Some, None, Option, ◌==◌, nat_le, nat_lt}
+use Rattle.std.specs.Prelude.{◌≡◌, ◌≢◌, ◌⊎◌, ℕ, ◌<◌, ◌≤◌, Bool, cond, ◌&&◌, ◌||◌, ◌==◌}
+use Rattle.std.specs.Prelude.{nat_le, nat_lt, List, [], ◌∷◌, Option, Some, None, Result, Ok, Err}
+use Rattle.books.specs.declared.article.Broken.{Broken}
 
 infix 4 ◌≼◌ ◌≺◌
 infixr 3 ◌and◌
@@ -39,6 +41,12 @@ abbrev pub first_broken : List Article → ℕ
 first_broken [] = 0
 first_broken (a ∷ rest) = cond (test a.rule) (first_broken rest) a.number
 
+-- what comes of asking articles in their order: 0 where all hold, else the number of the first
+-- that does not
+abbrev pub answer_of : Result (Unit {0}) Broken → ℕ
+answer_of (Ok all) = 0
+answer_of (Err broken) = broken.article
+
 -- an answer where it is a refusal
 abbrev pub if_refused : ℕ → Option ℕ
 if_refused n = cond (n == 0) None (Some n)
@@ -55,7 +63,8 @@ EveryHolds (a ∷ rest) = Holds a.rule × EveryHolds rest
 -- n is the number of an article that does not hold, while all before it hold
 abbrev pub FirstBroken : List Article → ℕ → Type 0
 FirstBroken [] n = ⊥
-FirstBroken (a ∷ rest) n = ((n ≡ a.number) × (Holds a.rule → ⊥)) ⊎ (Holds a.rule × FirstBroken rest n)
+FirstBroken (a ∷ rest) n =
+    ((n ≡ a.number) × (Holds a.rule → ⊥)) ⊎ (Holds a.rule × FirstBroken rest n)
 
 -- an answer is 0 exactly when every article holds
 abbrev pub PassesExactly : List Article → ℕ → Type 0
@@ -63,4 +72,5 @@ PassesExactly articles r = (r ≡ 0 → EveryHolds articles) × (EveryHolds arti
 
 -- any other answer is the number of the first broken article, and no other number is
 abbrev pub RefusesExactly : List Article → ℕ → Type 0
-RefusesExactly articles r = (r ≢ 0 → FirstBroken articles r) × ((k : ℕ) → FirstBroken articles k → r ≡ k)
+RefusesExactly articles r =
+    (r ≢ 0 → FirstBroken articles r) × ((k : ℕ) → FirstBroken articles k → r ≡ k)

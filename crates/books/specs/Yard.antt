@@ -19,7 +19,10 @@ one_mark flag c = flag ≼ 0 or c.bottom.mark ≼ c.top.mark and c.top.mark ≼ 
 -- the layer's own articles
 unfoldable pub yard_articles : ℕ → ℕ → ℕ → Cage → List Article
 yard_articles most least flag c =
-    article 41 (few_bars most c) ∷ article 42 (wide_spacing least c.ties) ∷ article 43 (one_mark flag c) ∷ []
+    article 41 (few_bars most c)
+    ∷ article 42 (wide_spacing least c.ties)
+    ∷ article 43 (one_mark flag c)
+    ∷ []
 
 -- what the layer answers of its own
 unfoldable pub yard_answer : ℕ → ℕ → ℕ → Cage → ℕ

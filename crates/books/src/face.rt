@@ -2,7 +2,7 @@ ghost use Rattle.std.specs.Prelude.{◌≡◌, ◌≤◌};
 ghost use Rattle.rebar.specs.Marks.{face_area};
 ghost use Rattle.books.specs.Rules.{test};
 ghost use Rattle.books.specs.Numbers.{room, row_length, rows_of, second_row_loss, effective_depth, rows_depth, d_of, face_depth, q_of, y_of};
-ghost use Rattle.books.specs.Articles.{outer_row_fits, faces_apart};
+ghost use Rattle.books.specs.General.{outer_row_fits, faces_apart};
 
 use rebar::beam::Beam;
 use rebar::cage::{Bars, Ties};
@@ -28,24 +28,24 @@ fn row_of(beam: &Beam, bars: &Bars, number: u64) -> u64
 
 // The yield stress of the steel, in hundreds of kg/cm².
 pub(crate) fn yield_stress(beam: &Beam) -> u64
-    ensures is { result ≡ y_of beam.now.materials }
-    ensures small { result ≤ 42 }
+    ensures hundredth_of_the_grade { result ≡ y_of beam.now.materials }
+    ensures no_more_in_any_beam { result ≤ 42 }
 {
     beam.materials.steel as u64 / 100
 }
 
 // q, the force of the bars at yield.
 fn force_of(beam: &Beam, bars: &Bars) -> u64
-    ensures is { result ≡ q_of beam.now.materials bars.now }
-    ensures small { result ≤ 507024 }
+    ensures area_by_yield_stress { result ≡ q_of beam.now.materials bars.now }
+    ensures no_more_in_any_beam { result ≤ 507024 }
 {
     bars.area() as u64 * yield_stress(beam)
 }
 
 // What the effective depth loses to a second row, in tenths.
 fn loss_of(bars: &Bars) -> u64
-    ensures is { result ≡ second_row_loss bars.now }
-    ensures small { result ≤ 304 }
+    ensures loss_to_a_second_row { result ≡ second_row_loss bars.now }
+    ensures no_more_in_any_beam { result ≤ 304 }
 {
     let number = bars.number as u64;
     ((bars.diameter() as u64 + 250) * (number / 2)).div_ceil(number)
@@ -59,14 +59,17 @@ struct Layout<'a> {
     bars: &'a Bars,
     rows: u64,
     fits: bool,
-    ghost counted: { (1 ≤ rows) × (rows ≤ 2) },
+    ghost one_row_or_two: { (1 ≤ rows) × (rows ≤ 2) },
 }
 
 impl<'a> Layout<'a> {
     fn of(beam: &'a Beam, ties: &'a Ties, bars: &'a Bars) -> Layout<'a>
-        ensures of_these { (result.beam.now ≡ beam.now) × (result.ties.now ≡ ties.now) × (result.bars.now ≡ bars.now) }
-        ensures rows { result.rows ≡ rows_of beam.now.section beam.now.materials ties.now bars.now }
-        ensures fits { result.fits ≡ test (outer_row_fits beam.now.section beam.now.materials ties.now bars.now) }
+        ensures of_these { (result.beam.now ≡ beam.now) × (result.ties.now ≡ ties.now)
+            × (result.bars.now ≡ bars.now) }
+        ensures one_row_where_all_fit { result.rows ≡ rows_of beam.now.section beam.now.materials
+            ties.now bars.now }
+        ensures whether_the_outer_row_fits { result.fits ≡ test
+            (outer_row_fits beam.now.section beam.now.materials ties.now bars.now) }
     {
         let room = room_in(beam, ties);
         let number = bars.number as u64;
@@ -82,8 +85,9 @@ impl<'a> Layout<'a> {
 
     // The effective depth of the face, in tenths.
     fn depth(&self) -> u64
-        ensures is { result ≡ effective_depth self.now.beam.now.section self.now.ties.now self.now.bars.now self.now.rows }
-        ensures small { result ≤ 8800 }
+        ensures depth_of_its_rows { result ≡ effective_depth self.now.beam.now.section
+            self.now.ties.now self.now.bars.now self.now.rows }
+        ensures no_more_in_any_beam { result ≤ 8800 }
     {
         let section = &self.beam.section;
         let straight = 10 * section.height as u64
@@ -99,8 +103,9 @@ impl<'a> Layout<'a> {
 
     // How deep the rows stand into the section, in tenths.
     fn thickness(&self) -> u64
-        ensures is { result ≡ rows_depth self.now.beam.now.section self.now.ties.now self.now.bars.now self.now.rows }
-        ensures small { result ≤ 1875 }
+        ensures depth_taken_up { result ≡ rows_depth self.now.beam.now.section self.now.ties.now
+            self.now.bars.now self.now.rows }
+        ensures no_more_in_any_beam { result ≤ 1875 }
     {
         10 * self.beam.section.cover as u64
             + self.ties.diameter() as u64
@@ -119,18 +124,22 @@ pub(crate) struct Face<'a> {
     pub area: u64,
     pub force: u64,
     pub depth: u64,
-    ghost bounded: { (thickness ≤ 1875) × (area ≤ 12072) × (force ≤ 507024) × (depth ≤ 8800) },
+    ghost no_more_in_any_beam: { (thickness ≤ 1875) × (area ≤ 12072) × (force ≤ 507024)
+        × (depth ≤ 8800) },
 }
 
 impl<'a> Face<'a> {
     // The face that these bars make.
     pub(crate) fn of(beam: &'a Beam, ties: &Ties, bars: &Bars) -> Face<'a>
         ensures of_the_beam { result.beam.now ≡ beam.now }
-        ensures fits { result.fits ≡ test (outer_row_fits beam.now.section beam.now.materials ties.now bars.now) }
-        ensures thickness { result.thickness ≡ face_depth beam.now.section beam.now.materials ties.now bars.now }
-        ensures area { result.area ≡ face_area bars.now }
-        ensures force { result.force ≡ q_of beam.now.materials bars.now }
-        ensures depth { result.depth ≡ d_of beam.now.section beam.now.materials ties.now bars.now }
+        ensures whether_the_outer_row_fits { result.fits ≡ test
+            (outer_row_fits beam.now.section beam.now.materials ties.now bars.now) }
+        ensures depth_taken_up { result.thickness ≡ face_depth beam.now.section beam.now.materials
+            ties.now bars.now }
+        ensures area_of_the_bars { result.area ≡ face_area bars.now }
+        ensures force_at_yield { result.force ≡ q_of beam.now.materials bars.now }
+        ensures depth_of_the_face { result.depth ≡ d_of beam.now.section beam.now.materials ties.now
+            bars.now }
     {
         let layout = Layout::of(beam, ties, bars);
         Face {
@@ -145,7 +154,8 @@ impl<'a> Face<'a> {
 
     // Whether this face and the one across stand apart.
     pub(crate) fn stands_apart(&self, across: &Face) -> bool
-        ensures { result ≡ test (faces_apart self.now.beam.now.section self.now.thickness across.now.thickness) }
+        ensures { result ≡ test
+            (faces_apart self.now.beam.now.section self.now.thickness across.now.thickness) }
     {
         self.thickness + across.thickness + 250 <= 10 * self.beam.section.height as u64
     }

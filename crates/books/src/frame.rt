@@ -1,9 +1,8 @@
 ghost use Rattle.std.specs.Prelude.{◌≡◌, MatchOption, ◌≢◌, ◌≤◌};
-ghost use Rattle.books.specs.Rules.{test, over, first_broken, PassesExactly, RefusesExactly};
+ghost use Rattle.books.specs.Rules.{test, over, first_broken, PassesExactly, RefusesExactly, answer_of};
 ghost use Rattle.books.specs.Answers.{AtEverySpacing};
-ghost use Rattle.books.specs.Asked.{answer_of};
-ghost use Rattle.books.specs.Faces.{least_depth, shear_of_moments};
-ghost use Rattle.books.specs.Frame.{probable_moment, most_steel, half_below, close_in_frame, relied_on, in_frame_shear, frame, frame_articles_for, frame_answer};
+ghost use Rattle.books.specs.Faces.{least_depth};
+ghost use Rattle.books.specs.Frame.{probable_moment, shear_of_moments, most_steel, half_below, close_in_frame, relied_on, in_frame_shear, frame, frame_articles_for, frame_answer};
 
 use crate::article::{Broken, answer, ask};
 use crate::book::Book;
@@ -13,7 +12,8 @@ use crate::shear::{Shear, Strengths};
 use rebar::beam::Beam;
 use rebar::cage::{Cage, Ties};
 
-// A layer over any book: articles 21 to 28, for beams of a frame that resists earthquakes.
+/// A layer over any book: articles 21 to 28, for beams of a frame that resists earthquakes. Behind them stand R-033, Articles 106
+/// and 126 for the steel, 138 and 140 for the ties, and 128 to 132 for the capacity shear (docs/RULES.md).
 #[derive(Clone, Copy)]
 pub struct Frame<B> {
     pub below: B,
@@ -23,8 +23,9 @@ impl Face<'_> {
     // The probable moment of the face, in kg·mm.
     #[tactic(auto, using(rebar::proofs::Rounding::rounded_up, crate::proofs::Products::spread))]
     fn probable_moment(&self) -> u64
-        ensures is { result ≡ probable_moment self.now.beam.now.section self.now.beam.now.materials self.now.force self.now.depth }
-        ensures small { result ≤ 5000000000 }
+        ensures probable_moment_rounded_up { result ≡ probable_moment self.now.beam.now.section
+            self.now.beam.now.materials self.now.force self.now.depth }
+        ensures no_more_in_any_beam { result ≤ 5000000000 }
     {
         let bracket = (17 * self.full_block()).saturating_sub(12_500 * self.force);
         (5 * self.force * bracket).div_ceil(680 * strip_of(self.beam))
@@ -32,7 +33,8 @@ impl Face<'_> {
 
     // Whether the face has less than the most steel.
     fn is_below_most_steel(&self) -> bool
-        ensures { result ≡ test (most_steel self.now.beam.now.section self.now.area self.now.depth) }
+        ensures { result ≡ test
+            (most_steel self.now.beam.now.section self.now.area self.now.depth) }
     {
         400 * self.area < self.beam.section.width as u64 * self.depth
     }
@@ -49,8 +51,8 @@ impl Faces<'_> {
     // The shear of the two probable moments over the span.
     #[tactic(auto, using(rebar::proofs::Rounding::rounded_up))]
     fn moment_shear(&self) -> u64
-        ensures is { result ≡ shear_of_moments self.now }
-        ensures small { result ≤ 200000000 }
+        ensures shear_of_both_moments { result ≡ shear_of_moments self.now }
+        ensures no_more_in_any_beam { result ≤ 200000000 }
     {
         let both = self.bottom.probable_moment() + self.top.probable_moment();
         (10 * both).div_ceil(self.beam.member.span as u64)
@@ -67,8 +69,9 @@ fn is_close_in_frame(ties: &Ties, depth: u64) -> bool
 impl Strengths {
     // The strengths without the concrete, where the moments make more than half of the shear: more than gravity does.
     fn relied_on(&self, gravity: u64, moments: u64) -> Strengths
-        ensures concrete { result.concrete ≡ relied_on gravity moments self.now.concrete }
-        ensures ties { result.ties ≡ self.now.ties }
+        ensures no_concrete_where_moments_make_more_than_half { result.concrete
+            ≡ relied_on gravity moments self.now.concrete }
+        ensures ties_unchanged { result.ties ≡ self.now.ties }
     {
         Strengths {
             concrete: if moments <= gravity { self.concrete } else { 0 },
@@ -80,7 +83,10 @@ impl Strengths {
 
 // Asks the articles 27 and 28.
 fn ask_in_shear(faces: &Faces) -> Result<(), Broken>
-    ensures { answer_of result ≡ first_broken (in_frame_shear faces.now.beam.now.section faces.now.beam.now.materials faces.now.beam.now.member.shear_factor faces.now.beam.now.actions.gravity (shear_of_moments faces.now) faces.now.ties.now (least_depth faces.now)) }
+    ensures { answer_of result ≡ first_broken
+        (in_frame_shear faces.now.beam.now.section faces.now.beam.now.materials
+        faces.now.beam.now.member.shear_factor faces.now.beam.now.actions.gravity
+        (shear_of_moments faces.now) faces.now.ties.now (least_depth faces.now)) }
 {
     let strengths = Strengths::of(faces);
     let gravity = faces.beam.actions.gravity as u64;
@@ -95,7 +101,8 @@ fn ask_in_shear(faces: &Faces) -> Result<(), Broken>
 
 // Asks all articles of the layer.
 fn ask_all(beam: &Beam, cage: &Cage) -> Result<(), Broken>
-    ensures { answer_of result ≡ first_broken (frame beam.now.section beam.now.materials beam.now.member beam.now.actions cage.now) }
+    ensures { answer_of result ≡ first_broken
+        (frame beam.now.section beam.now.materials beam.now.member beam.now.actions cage.now) }
 {
     let ties = &cage.ties;
     let bottom = Face::of(beam, ties, &cage.bottom);
@@ -116,15 +123,22 @@ fn ask_all(beam: &Beam, cage: &Cage) -> Result<(), Broken>
 }
 
 impl<B: Book> Book for Frame<B> {
-    ghost answer = { λ f beam cage. over (B.Book.answer f.below beam cage) (frame_answer beam cage) };
+    ghost answer = { λ f beam cage. over (B.Book.answer f.below beam cage)
+        (frame_answer beam cage) };
 
     ghost refusal_told = { λ f beam cage. B.Book.refusal_told f.below beam cage };
 
     fn check(&self, beam: &Beam, cage: &Cage) -> u8
-        ensures answers_its_meaning { result ≡ over (B.answer self.now.below beam.now cage.now) (frame_answer beam.now cage.now) }
-        ensures lower_answer_comes_first { B.answer self.now.below beam.now cage.now ≢ 0 → result ≡ B.answer self.now.below beam.now cage.now }
-        ensures then_passes_exactly_when_every_article_holds { B.answer self.now.below beam.now cage.now ≡ 0 → PassesExactly (frame_articles_for beam.now cage.now) result }
-        ensures then_refusal_names_the_first_broken_article { B.answer self.now.below beam.now cage.now ≡ 0 → RefusesExactly (frame_articles_for beam.now cage.now) result }
+        ensures answers_its_meaning { result ≡ over (B.answer self.now.below beam.now cage.now)
+            (frame_answer beam.now cage.now) }
+        ensures lower_answer_comes_first { B.answer self.now.below beam.now cage.now ≢ 0
+            → result ≡ B.answer self.now.below beam.now cage.now }
+        ensures then_passes_exactly_when_every_article_holds { B.answer
+            self.now.below beam.now cage.now ≡ 0
+            → PassesExactly (frame_articles_for beam.now cage.now) result }
+        ensures then_refusal_names_the_first_broken_article { B.answer
+            self.now.below beam.now cage.now ≡ 0
+            → RefusesExactly (frame_articles_for beam.now cage.now) result }
     {
         match self.below.check(beam, cage) {
             0 if beam.member.in_frame => answer(ask_all(beam, cage)),
@@ -136,7 +150,9 @@ impl<B: Book> Book for Frame<B> {
     #[tactic(auto, using(crate::proofs::EverySpacing::passed_on))]
     fn refusal_at_every_spacing(&self, beam: &Beam, cage: &Cage) -> Option<u8>
         ensures refusal_told_below { result ≡ B.refusal_told self.now.below beam.now cage.now }
-        ensures refused_so_at_every_spacing { MatchOption result (Unit {0}) (AtEverySpacing (λ b c. over (B.answer self.now.below b c) (frame_answer b c)) beam.now cage.now) }
+        ensures refused_so_at_every_spacing { MatchOption result (Unit {0})
+            (AtEverySpacing (λ b c. over (B.answer self.now.below b c) (frame_answer b c))
+            beam.now cage.now) }
     {
         self.below.refusal_at_every_spacing(beam, cage)
     }

@@ -1,7 +1,7 @@
 ghost use Rattle.std.specs.Prelude.{◌≡◌, ◌≤◌};
 ghost use Rattle.books.specs.Rules.{test};
 ghost use Rattle.books.specs.Numbers.{vc_of, vm_of, vs_of};
-ghost use Rattle.books.specs.Articles.{section_bears, ties_bear, least_ties, close_enough};
+ghost use Rattle.books.specs.General.{section_bears, ties_bear, least_ties, close_enough};
 
 use crate::face::{Faces, yield_stress};
 use rebar::beam::Beam;
@@ -12,7 +12,7 @@ use rebar::cage::Ties;
 pub(crate) struct Shear {
     pub force: u64,
     pub factor: u64,
-    ghost bounded: { (force ≤ 1000000000) × (factor ≤ 75) },
+    ghost no_more_in_any_beam: { (force ≤ 1000000000) × (factor ≤ 75) },
 }
 
 // What a section bears in shear, in kg: its concrete vc, its ties vs, and vm at the most.
@@ -21,7 +21,7 @@ pub(crate) struct Strengths {
     pub concrete: u64,
     pub ties: u64,
     pub most: u64,
-    ghost bounded: { (concrete ≤ 400000) × (ties ≤ 300000) × (most ≤ 400000) },
+    ghost no_more_in_any_beam: { (concrete ≤ 400000) × (ties ≤ 300000) × (most ≤ 400000) },
 }
 
 impl Strengths {
@@ -29,9 +29,12 @@ impl Strengths {
 
     // The strengths of the section with these faces and ties.
     pub(crate) fn of(faces: &Faces) -> Strengths
-        ensures concrete { result.concrete ≡ vc_of faces.now.beam.now.section faces.now.beam.now.materials (least_depth faces.now) }
-        ensures ties { result.ties ≡ vs_of faces.now.beam.now.materials faces.now.ties.now (least_depth faces.now) }
-        ensures most { result.most ≡ vm_of faces.now.beam.now.section faces.now.beam.now.materials (least_depth faces.now) }
+        ensures concrete_bears_vc { result.concrete ≡ vc_of faces.now.beam.now.section
+            faces.now.beam.now.materials (least_depth faces.now) }
+        ensures ties_bear_vs { result.ties ≡ vs_of faces.now.beam.now.materials faces.now.ties.now
+            (least_depth faces.now) }
+        ensures section_bears_vm { result.most ≡ vm_of faces.now.beam.now.section
+            faces.now.beam.now.materials (least_depth faces.now) }
     {
         let Faces { beam, ties, .. } = faces;
         let r = beam.materials.root() as u64;
@@ -54,14 +57,17 @@ impl Strengths {
 
     // Whether concrete and ties bear the shear.
     pub(crate) fn bear(&self, shear: &Shear) -> bool
-        ensures { result ≡ test (ties_bear shear.now.factor shear.now.force self.now.concrete self.now.ties) }
+        ensures { result ≡ test
+            (ties_bear shear.now.factor shear.now.force self.now.concrete self.now.ties) }
     {
         10 * shear.force <= shear.factor * (self.concrete + self.ties)
     }
 
     // Whether the ties are the least, where the shear asks for any.
     pub(crate) fn has_least_ties(&self, beam: &Beam, ties: &Ties, shear: &Shear) -> bool
-        ensures { result ≡ test (least_ties beam.now.section beam.now.materials shear.now.factor ties.now shear.now.force self.now.concrete) }
+        ensures { result ≡ test
+            (least_ties beam.now.section beam.now.materials shear.now.factor ties.now
+            shear.now.force self.now.concrete) }
     {
         let b = beam.section.width as u64;
         20 * shear.force <= shear.factor * self.concrete

@@ -2,12 +2,10 @@
 // at the end: on the frame layer over the general book.
 #![tactic(auto)]
 
-use books::frame::Frame;
-use books::general::General;
+use books::pile::STANDARD_PILE;
 use console::stream::answer_orders;
 use std::io;
 
 fn main(rt: HostRuntime) -> io::Result<()> {
-    let pile = Frame { below: General };
-    answer_orders(pile, &mut rt.stdin(), &mut rt.stdout())
+    answer_orders(STANDARD_PILE, &mut rt.stdin(), &mut rt.stdout())
 }

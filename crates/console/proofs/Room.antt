@@ -42,7 +42,7 @@ line_length place x =
     let b = bars_length x.cage.bottom in
     let t = bars_length x.cage.top in
     let s = ties_length x.cage.ties in
-    let w = length-decimal-le 9 x.steel (omega arith) (omega (arith, x.light)) (omega (arith, x.light)) in
+    let w = length-decimal-le 9 x.steel (omega arith) (omega (arith, x.steel_under_the_bound)) (omega (arith, x.steel_under_the_bound)) in
     rw (
       length-append (two place) (codes " B " ++ (bars_text x.cage.bottom ++ (codes " T " ++ (bars_text x.cage.top ++ (codes " S " ++ (ties_text x.cage.ties ++ (codes " " ++ (decimal x.steel ++ codes "\n")))))))),
       length-append (codes " B ") (bars_text x.cage.bottom ++ (codes " T " ++ (bars_text x.cage.top ++ (codes " S " ++ (ties_text x.cage.ties ++ (codes " " ++ (decimal x.steel ++ codes "\n"))))))),

@@ -4,14 +4,13 @@
 mod haulage; // the haulage layer, articles 71 and 72
 
 use crate::haulage::Haulage;
-use books::frame::Frame;
-use books::general::General;
+use books::pile::STANDARD_PILE;
 use console::stream::answer_orders;
 use std::io;
 
 fn main(rt: HostRuntime) -> io::Result<()> {
     let pile = Haulage {
-        below: Frame { below: General },
+        below: STANDARD_PILE,
         bed: 6000,
         lifts: 75,
     };

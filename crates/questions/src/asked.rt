@@ -1,10 +1,9 @@
 use crate::case::Case;
 use crate::counted::Counted;
 use crate::least::least_questions;
-use books::frame::Frame;
-use books::general::General;
+use books::pile::STANDARD_PILE;
 use search::decision::Decision;
-use search::lightest::design;
+use search::lightest::lightest_cage;
 use std::alloc::{AllocError, Global};
 use std::cell::Cell;
 use std::fmt;
@@ -21,10 +20,10 @@ impl Asked {
     // What the search asks of the frame layer over the general book.
     pub(crate) fn of(heap: Global, case: &Case) -> Result<Asked, AllocError> {
         let pile = Counted {
-            below: Frame { below: General },
+            below: STANDARD_PILE,
             questions: Cell::new(0),
         };
-        let decision = design(&pile, &case.beam, &case.stock);
+        let decision = lightest_cage(&pile, &case.beam, &case.stock);
         let least = least_questions(heap, case, &decision)?;
         Ok(Asked {
             decision,

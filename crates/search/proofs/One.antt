@@ -17,7 +17,7 @@ use Rattle.rebar.proofs.Same.{same_bars, same_ties, same_cage}
 -- choices of the same cage and steel are the same
 same_choice : (a b : Choice) → a.cage ≡ b.cage → a.steel ≡ b.steel → a ≡ b
 same_choice a b p q =
-    λ i. record { cage = p i; steel = q i; light = is_prop→PathP (λ j. q j < 500000000) (λ j. le_prop) a.light b.light i }
+    λ i. record { cage = p i; steel = q i; steel_under_the_bound = is_prop→PathP (λ j. q j < 500000000) (λ j. le_prop) a.steel_under_the_bound b.steel_under_the_bound i }
 
 -- where neither of two lists comes before the other, the first numbers are equal, and neither rest comes before the other
 level : {P Q : Type 0} (x y : ℕ) → ((x < y) ⊎ ((x ≡ y) × P) → ⊥) → ((y < x) ⊎ ((y ≡ x) × Q) → ⊥) → (x ≡ y) × (P → ⊥) × (Q → ⊥)

@@ -10,8 +10,8 @@ use Rattle.rebar.specs.Steel.{bars_steel, ties_steel, steel}
 use Rattle.rebar.proofs.Same.{same_bars, same_ties}
 use Rattle.rebar.proofs.Spacings.{lighter_ties}
 use Rattle.search.specs.declared.places.TheConstants.{BARS, TIE_MARKS, SPACINGS, TIES}
-use Rattle.search.specs.declared.weighed.WeighedBars.{WeighedBars}
-use Rattle.search.specs.declared.weighed.WeighedTies.{WeighedTies}
+use Rattle.search.specs.declared.places.WeighedBars.{WeighedBars}
+use Rattle.search.specs.declared.places.WeighedTies.{WeighedTies}
 use Rattle.search.specs.Search.{IsByPlace, bars_place, mark_place, spacing_place, ties_place}
 
 -- the bars at a place are the only ones, and so are the ties

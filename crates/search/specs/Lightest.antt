@@ -12,7 +12,8 @@ use Rattle.search.specs.declared.decision.Decision.TheVariants.{Chosen, Impossib
 
 -- the marks of all its bars are in, where `got` says which are
 abbrev pub FromStock : (Kind → ℕ → Bool) → Cage → Type 0
-FromStock got cage = T (got Main cage.bottom.mark) × T (got Main cage.top.mark) × T (got Tie cage.ties.mark)
+FromStock got cage =
+    T (got Main cage.bottom.mark) × T (got Main cage.top.mark) × T (got Tie cage.ties.mark)
 
 -- d has less steel than c, or as much and is smaller by its six numbers
 abbrev pub Better : Beam → Cage → Cage → Type 0
@@ -27,4 +28,5 @@ Lightest answer got beam (Chosen x) =
     × ((d : Cage) → FromStock got d → Passes answer beam d → Better beam d x.cage → ⊥)
 Lightest answer got beam (Impossible n) =
     ((d : Cage) → FromStock got d → (Passes answer beam d → ⊥) × (answer beam d ≤ n))
-    × (((d : Cage) × (FromStock got d × (answer beam d ≡ n))) ⊎ ((n ≡ 0) × ((d : Cage) → FromStock got d → ⊥)))
+    × (((d : Cage) × (FromStock got d × (answer beam d ≡ n)))
+    ⊎ ((n ≡ 0) × ((d : Cage) → FromStock got d → ⊥)))

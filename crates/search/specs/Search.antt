@@ -1,11 +1,13 @@
 -- What the steps of the search keep. A reader of the public contracts needs none of this.
-use Rattle.std.specs.Prelude.{◌≡◌, ℕ, ◌+◌, ◌-◌, ◌*◌, ◌/◌, ◌<◌, ◌≤◌, Bool, T, ◌⊎◌, List, ◌∷◌, slice_index_or}
+use Rattle.std.specs.Prelude.{◌≡◌, ℕ, ◌+◌, ◌-◌, ◌*◌, ◌/◌, ◌<◌, ◌≤◌, Bool, T, ◌⊎◌}
+use Rattle.std.specs.Prelude.{List, ◌∷◌, slice_index_or}
 use Rattle.rebar.specs.declared.beam.Beam.{Beam}
 use Rattle.rebar.specs.declared.cage.Bars.{Bars}
 use Rattle.rebar.specs.declared.cage.Ties.{Ties}
 use Rattle.rebar.specs.declared.cage.Cage.{Cage}
 use Rattle.rebar.specs.Order.{numbers, Before}
-use Rattle.rebar.specs.Ranges.{count, main_marks, tie_marks, bar_numbers, spacings, spacing_step, spacing_count}
+use Rattle.rebar.specs.Ranges.{count, main_marks, tie_marks, bar_numbers}
+use Rattle.rebar.specs.Ranges.{spacings, spacing_step, spacing_count}
 use Rattle.rebar.specs.Steel.{steel}
 use Rattle.books.specs.Answers.{Passes}
 use Rattle.stock.specs.declared.kind.Kind.{Kind}
@@ -34,11 +36,14 @@ Covers answer beam (Impossible n) d = (Passes answer beam d → ⊥) × (answer 
 
 -- a decision that names what there is
 abbrev pub Sound : (Beam → Cage → ℕ) → (Kind → ℕ → Bool) → Beam → Decision → Type 0
-Sound answer got beam (Chosen x) = FromStock got x.cage × Passes answer beam x.cage × (x.steel ≡ steel beam x.cage)
-Sound answer got beam (Impossible n) = (n ≡ 0) ⊎ ((d : Cage) × (FromStock got d × (answer beam d ≡ n)))
+Sound answer got beam (Chosen x) =
+    FromStock got x.cage × Passes answer beam x.cage × (x.steel ≡ steel beam x.cage)
+Sound answer got beam (Impossible n) =
+    (n ≡ 0) ⊎ ((d : Cage) × (FromStock got d × (answer beam d ≡ n)))
 
 -- from one decision to a later one
-pub record Step (answer : Beam → Cage → ℕ) (got : Kind → ℕ → Bool) (beam : Beam) (old new : Decision) : Type 0 where
+pub record Step (answer : Beam → Cage → ℕ) (got : Kind → ℕ → Bool) (beam : Beam)
+    (old new : Decision) : Type 0 where
   pub sound : Sound answer got beam old → Sound answer got beam new
   pub keeps : (d : Cage) → Covers answer beam old d → Covers answer beam new d
 
@@ -53,7 +58,8 @@ IsLike cage d = (d.bottom ≡ cage.bottom) × (d.top ≡ cage.top) × (d.ties.ma
 
 -- the place of a face's bars in the order of the search, by mark and then by number
 abbrev pub bars_place : Bars → ℕ
-bars_place bars = (bars.mark - main_marks.least) * count bar_numbers + (bars.number - bar_numbers.least)
+bars_place bars =
+    (bars.mark - main_marks.least) * count bar_numbers + (bars.number - bar_numbers.least)
 
 -- the place of the mark of ties
 abbrev pub mark_place : Ties → ℕ

@@ -1,21 +1,100 @@
 ghost use Rattle.std.specs.Prelude.{◌≡◌, ◌<◌};
-ghost use Rattle.rebar.specs.Steel.{bars_steel, ties_steel};
+ghost use Rattle.std.specs.List.{AllWithin};
+ghost use Rattle.rebar.specs.Steel.{bars_steel, ties_steel, steel};
+ghost use Rattle.books.specs.Answers.{AtEverySpacing};
 ghost use Rattle.stock.specs.Stock.{has};
-ghost use Rattle.search.specs.declared.places.TheConstants.{TIE_MARKS};
+ghost use Rattle.search.specs.declared.places.TheConstants.{BARS, TIES, TIE_MARKS};
 ghost use Rattle.search.specs.declared.decision.Decision.{Decision};
 ghost use Rattle.search.specs.Lightest.{FromStock, Lightest};
-ghost use Rattle.search.specs.Search.{MainIn, TieIn, Step, Done, mark_place};
+ghost use Rattle.search.specs.Search.{bars_place, ties_place, mark_place, IsByPlace};
+ghost use Rattle.search.specs.Search.{MainIn, TieIn, Covers, Step, Done, IsLike};
 
 use crate::decision::{Choice, Decision};
-use crate::places::{SPACINGS, TIE_MARKS};
-use crate::searching::Search;
-use crate::weighed::{WeighedBars, WeighedTies};
+use crate::places::{
+    BARS, SPACINGS, TIE_MARKS, TIES, WeighedBars, WeighedTies, all_bars, all_ties,
+};
 use books::book::Book;
 use rebar::beam::Beam;
 use rebar::cage::Cage;
 use stock::stock::Stock;
 
+// A search of a beam on a pile from a stock: all bars and all ties with their steel in the beam.
+#[derive(Drop)]
+struct Search<'a, P> {
+    pile: &'a P,
+    beam: &'a Beam,
+    stock: &'a Stock,
+    bars: [WeighedBars; BARS],
+    ties: [WeighedTies; TIES],
+    ghost every_bars: { IsByPlace (λ b. bars_place b.bars) bars BARS },
+    ghost bars_weighed: { AllWithin (λ b. b.steel ≡ bars_steel beam.now b.bars) bars 0 BARS },
+    ghost every_ties: { IsByPlace (λ t. ties_place t.ties) ties TIES },
+    ghost ties_weighed: { AllWithin (λ t. t.steel ≡ ties_steel beam.now t.ties) ties 0 TIES },
+}
+
+impl<'a, P> Search<'a, P> {
+    // The search of this beam, on this pile, from this stock.
+    fn new(pile: &'a P, beam: &'a Beam, stock: &'a Stock) -> Search<'a, P>
+        ensures of_these { (result.pile.now ≡ pile.now) × (result.beam.now ≡ beam.now)
+            × (result.stock.now ≡ stock.now) }
+    {
+        Search {
+            pile,
+            beam,
+            stock,
+            bars: all_bars(beam),
+            ties: all_ties(beam),
+        }
+    }
+}
+
 impl<P: Book> Search<'_, P> {
+    // The decision with one more cage.
+    #[tactic(auto, using(crate::proofs::Steps::replaced, crate::proofs::Steps::refused))]
+    fn weigh(&self, choice: Choice, best: Decision) -> Decision
+        requires from_stock { FromStock (has self.now.stock.now) choice.cage }
+        requires weighed { choice.steel ≡ steel self.now.beam.now choice.cage }
+        ensures keeps_what_was_right { Step (P.answer self.now.pile.now) (has self.now.stock.now)
+            self.now.beam.now best result }
+        ensures right_for_this_cage { Covers (P.answer self.now.pile.now) self.now.beam.now result
+            choice.cage }
+    {
+        match best {
+            Decision::Chosen(chosen) => {
+                if choice.is_lighter(&chosen) && self.pile.check(self.beam, &choice.cage) == 0 {
+                    Decision::Chosen(choice)
+                } else {
+                    best
+                }
+            }
+            Decision::Impossible(greatest) => {
+                let answer = self.pile.check(self.beam, &choice.cage);
+                if answer == 0 {
+                    Decision::Chosen(choice)
+                } else {
+                    Decision::Impossible(greatest.max(answer))
+                }
+            }
+        }
+    }
+
+    // The decision with the cages of the same bars and ties of the same mark as one that the pile refuses at every spacing.
+    #[tactic(auto, using(crate::proofs::Steps::refused_so, crate::proofs::Steps::none_like, crate::proofs::Steps::none_better))]
+    fn weigh_refused(&self, cage: &Cage, number: u8, best: Decision) -> Decision
+        requires from_stock { FromStock (has self.now.stock.now) cage.now }
+        requires refused { AtEverySpacing (P.answer self.now.pile.now) self.now.beam.now cage.now
+            number }
+        ensures keeps_what_was_right { Step (P.answer self.now.pile.now) (has self.now.stock.now)
+            self.now.beam.now best result }
+        ensures right_for_these_cages { Done (P.answer self.now.pile.now) self.now.beam.now
+            (IsLike cage.now) result }
+    {
+        match best {
+            Decision::Chosen(_) => best,
+            Decision::Impossible(greatest) => Decision::Impossible(greatest.max(number)),
+        }
+    }
+
     // The decision with the cage of these bars and ties.
     fn weigh_cage(
         &self,
@@ -24,10 +103,17 @@ impl<P: Book> Search<'_, P> {
         ties: &WeighedTies,
         best: Decision,
     ) -> Decision
-        requires all_in { MainIn (has self.now.stock.now) bottom.now.bars × MainIn (has self.now.stock.now) top.now.bars × TieIn (has self.now.stock.now) ties.now.ties }
-        requires weighed { (bottom.now.steel ≡ bars_steel self.now.beam.now bottom.now.bars) × (top.now.steel ≡ bars_steel self.now.beam.now top.now.bars) × (ties.now.steel ≡ ties_steel self.now.beam.now ties.now.ties) }
-        ensures step { Step (P.answer self.now.pile.now) (has self.now.stock.now) self.now.beam.now best result }
-        ensures done { Done (P.answer self.now.pile.now) self.now.beam.now (λ d. (d.bottom ≡ bottom.now.bars) × (d.top ≡ top.now.bars) × (d.ties ≡ ties.now.ties)) result }
+        requires all_in { MainIn (has self.now.stock.now) bottom.now.bars
+            × MainIn (has self.now.stock.now) top.now.bars
+            × TieIn (has self.now.stock.now) ties.now.ties }
+        requires weighed { (bottom.now.steel ≡ bars_steel self.now.beam.now bottom.now.bars)
+            × (top.now.steel ≡ bars_steel self.now.beam.now top.now.bars)
+            × (ties.now.steel ≡ ties_steel self.now.beam.now ties.now.ties) }
+        ensures keeps_what_was_right { Step (P.answer self.now.pile.now) (has self.now.stock.now)
+            self.now.beam.now best result }
+        ensures right_for_these_cages { Done (P.answer self.now.pile.now) self.now.beam.now
+            (λ d. (d.bottom ≡ bottom.now.bars) × (d.top ≡ top.now.bars) × (d.ties ≡ ties.now.ties))
+            result }
     {
         let cage = Cage {
             bottom: bottom.bars,
@@ -48,11 +134,16 @@ impl<P: Book> Search<'_, P> {
         mark: usize,
         best: Decision,
     ) -> Decision
-        requires marked { mark < TIE_MARKS }
-        requires bars_in { MainIn (has self.now.stock.now) bottom.now.bars × MainIn (has self.now.stock.now) top.now.bars }
-        requires weighed { (bottom.now.steel ≡ bars_steel self.now.beam.now bottom.now.bars) × (top.now.steel ≡ bars_steel self.now.beam.now top.now.bars) }
-        ensures step { Step (P.answer self.now.pile.now) (has self.now.stock.now) self.now.beam.now best result }
-        ensures done { Done (P.answer self.now.pile.now) self.now.beam.now (λ d. FromStock (has self.now.stock.now) d × (d.bottom ≡ bottom.now.bars) × (d.top ≡ top.now.bars) × (mark_place d.ties ≡ mark)) result }
+        requires place_of_a_mark { mark < TIE_MARKS }
+        requires bars_in { MainIn (has self.now.stock.now) bottom.now.bars
+            × MainIn (has self.now.stock.now) top.now.bars }
+        requires weighed { (bottom.now.steel ≡ bars_steel self.now.beam.now bottom.now.bars)
+            × (top.now.steel ≡ bars_steel self.now.beam.now top.now.bars) }
+        ensures keeps_what_was_right { Step (P.answer self.now.pile.now) (has self.now.stock.now)
+            self.now.beam.now best result }
+        ensures right_for_these_cages { Done (P.answer self.now.pile.now) self.now.beam.now
+            (λ d. FromStock (has self.now.stock.now) d × (d.bottom ≡ bottom.now.bars)
+            × (d.top ≡ top.now.bars) × (mark_place d.ties ≡ mark)) result }
     {
         let all = &self.ties;
         let first = SPACINGS * mark;
@@ -81,9 +172,13 @@ impl<P: Book> Search<'_, P> {
     // The decision with the cages of one bottom and one top.
     fn weigh_ties(&self, bottom: &WeighedBars, top: &WeighedBars, best: Decision) -> Decision
         requires bottom_in { MainIn (has self.now.stock.now) bottom.now.bars }
-        requires weighed { (bottom.now.steel ≡ bars_steel self.now.beam.now bottom.now.bars) × (top.now.steel ≡ bars_steel self.now.beam.now top.now.bars) }
-        ensures step { Step (P.answer self.now.pile.now) (has self.now.stock.now) self.now.beam.now best result }
-        ensures done { Done (P.answer self.now.pile.now) self.now.beam.now (λ d. FromStock (has self.now.stock.now) d × (d.bottom ≡ bottom.now.bars) × (d.top ≡ top.now.bars)) result }
+        requires weighed { (bottom.now.steel ≡ bars_steel self.now.beam.now bottom.now.bars)
+            × (top.now.steel ≡ bars_steel self.now.beam.now top.now.bars) }
+        ensures keeps_what_was_right { Step (P.answer self.now.pile.now) (has self.now.stock.now)
+            self.now.beam.now best result }
+        ensures right_for_these_cages { Done (P.answer self.now.pile.now) self.now.beam.now
+            (λ d. FromStock (has self.now.stock.now) d × (d.bottom ≡ bottom.now.bars)
+            × (d.top ≡ top.now.bars)) result }
     {
         if !self.stock.has_bars(&top.bars) {
             return best;
@@ -99,8 +194,10 @@ impl<P: Book> Search<'_, P> {
     // another thing of the cages that are covered.
     fn weigh_tops(&self, bottom: &WeighedBars, best: Decision) -> Decision
         requires { bottom.now.steel ≡ bars_steel self.now.beam.now bottom.now.bars }
-        ensures step { Step (P.answer self.now.pile.now) (has self.now.stock.now) self.now.beam.now best result }
-        ensures done { Done (P.answer self.now.pile.now) self.now.beam.now (λ d. FromStock (has self.now.stock.now) d × (d.bottom ≡ bottom.now.bars)) result }
+        ensures keeps_what_was_right { Step (P.answer self.now.pile.now) (has self.now.stock.now)
+            self.now.beam.now best result }
+        ensures right_for_these_cages { Done (P.answer self.now.pile.now) self.now.beam.now
+            (λ d. FromStock (has self.now.stock.now) d × (d.bottom ≡ bottom.now.bars)) result }
     {
         if !self.stock.has_bars(&bottom.bars) {
             return best;
@@ -114,8 +211,10 @@ impl<P: Book> Search<'_, P> {
 
     // The decision with all cages.
     fn weigh_bottoms(&self, best: Decision) -> Decision
-        ensures step { Step (P.answer self.now.pile.now) (has self.now.stock.now) self.now.beam.now best result }
-        ensures done { Done (P.answer self.now.pile.now) self.now.beam.now (FromStock (has self.now.stock.now)) result }
+        ensures keeps_what_was_right { Step (P.answer self.now.pile.now) (has self.now.stock.now)
+            self.now.beam.now best result }
+        ensures right_for_these_cages { Done (P.answer self.now.pile.now) self.now.beam.now
+            (FromStock (has self.now.stock.now)) result }
     {
         let mut found = best;
         for bottom in &self.bars {
@@ -125,12 +224,13 @@ impl<P: Book> Search<'_, P> {
     }
 }
 
-// The lightest cage from stock that the pile passes for the beam, of equals the smallest; or where none passes, the
-// greatest number with which the pile refuses one.
+/// The lightest cage from stock that the pile passes for the beam, of equals the smallest; or where none passes, the
+/// greatest number with which the pile refuses one (0 where no cage is from stock).
 #[tactic(auto, using(crate::proofs::Loops::settled, crate::proofs::One::only_settled))]
-pub fn design<P: Book>(pile: &P, beam: &Beam, stock: &Stock) -> Decision
+pub fn lightest_cage<P: Book>(pile: &P, beam: &Beam, stock: &Stock) -> Decision
     ensures lightest_or_none { Lightest (P.answer pile.now) (has stock.now) beam.now result }
-    ensures decision_is_the_only_one { (s : Decision) → Lightest (P.answer pile.now) (has stock.now) beam.now s → s ≡ result }
+    ensures decision_is_the_only_one { (s : Decision)
+        → Lightest (P.answer pile.now) (has stock.now) beam.now s → s ≡ result }
 {
     Search::new(pile, beam, stock).weigh_bottoms(Decision::Impossible(0))
 }

@@ -1,9 +1,9 @@
-ghost use Rattle.std.specs.Prelude.{◌≡◌, ◌<◌};
+ghost use Rattle.std.specs.Prelude.{◌≡◌, ◌<◌, ◌≤◌};
 ghost use Rattle.std.specs.List.{AllWithin};
 ghost use Rattle.rebar.specs.Steel.{bars_steel, ties_steel};
+ghost use Rattle.search.specs.declared.places.TheConstants.{MOST};
 ghost use Rattle.search.specs.Search.{bars_place, ties_place, IsByPlace};
 
-use crate::weighed::{WeighedBars, WeighedTies};
 use rebar::beam::Beam;
 use rebar::cage::{Bars, Ties};
 use std::array;
@@ -19,6 +19,25 @@ pub(crate) const SPACINGS: usize = 23;
 
 // How many ties that makes.
 pub(crate) const TIES: usize = TIE_MARKS * SPACINGS;
+
+// No bars of a face and no ties have more steel in any beam, in mm³.
+pub(crate) const MOST: u32 = 163_229_352;
+
+// The bars of a face with their steel in a beam, in mm³.
+#[derive(Clone, Copy)]
+pub(crate) struct WeighedBars {
+    pub(crate) bars: Bars,
+    pub(crate) steel: u32,
+    ghost no_more_in_any_beam: { steel ≤ MOST },
+}
+
+// Ties with their steel in a beam, in mm³.
+#[derive(Clone, Copy)]
+pub(crate) struct WeighedTies {
+    pub(crate) ties: Ties,
+    pub(crate) steel: u32,
+    ghost no_more_in_any_beam: { steel ≤ MOST },
+}
 
 // The bars of a face at a place, by mark and then by number, with their steel in a beam.
 fn bars_at(beam: &Beam, k: usize) -> WeighedBars

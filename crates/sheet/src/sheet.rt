@@ -9,7 +9,7 @@ use crate::reading::{Reading, Shown};
 use crate::refusal::Refusal;
 use crate::table::Table;
 use books::book::Book;
-use search::lightest::design;
+use search::lightest::lightest_cage;
 use stock::stock::Stock;
 use stock::stock_mark::StockMark;
 
@@ -105,7 +105,7 @@ impl<P: Book> Sheet<P> {
         if !self.table.stock.offers_cages() {
             return Err(Refusal::NothingInStock);
         }
-        let decision = design(&self.pile, &entry.beam, &self.table.stock);
+        let decision = lightest_cage(&self.pile, &entry.beam, &self.table.stock);
         self.table.settle(place, entry.beam, decision);
         Ok(())
     }

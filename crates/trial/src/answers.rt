@@ -1,10 +1,9 @@
 use crate::questions::{Limits, Pair, Question, Reader};
 use crate::sheets::run_sheet;
-use books::approved::Approved;
-use books::approved_row::ApprovedRow;
+use books::approved::{Approved, ApprovedRow};
 use books::book::Book;
-use books::frame::Frame;
 use books::general::General;
+use books::pile::STANDARD_PILE;
 use books::yard::Yard;
 use card::fault::Fault;
 use card::reader::read_card;
@@ -35,7 +34,7 @@ fn write_formulas(lines: &mut String, pair: &Pair) -> Result<(), AllocError> {
         Err(fault) => return write_fault(lines, 'Q', &fault),
     };
     let general = General.check(&beam, &pair.cage);
-    let framed = Frame { below: General }.check(&beam, &pair.cage);
+    let framed = STANDARD_PILE.check(&beam, &pair.cage);
     let steel = beam.steel(&pair.cage);
     writeln!(lines, "Q {general} {framed} {steel}")
 }

@@ -1,7 +1,5 @@
 use crate::reference::beam;
-use books::frame::Frame;
-use books::general::General;
-use books::pile::check_framed;
+use books::pile::{STANDARD_PILE, check_framed};
 use rebar::cage::{Bars, Cage, Ties};
 use std::test::Fail;
 
@@ -18,9 +16,8 @@ fn cage(bottom: Bars, top: Bars, spacing: u16) -> Result<Cage, Fail> {
 
 // What the frame layer over the general book answers for the reference beam.
 fn answer(in_frame: bool, bottom: Bars, top: Bars, spacing: u16) -> Result<u8, Fail> {
-    let pile = Frame { below: General };
     let cage = cage(bottom, top, spacing)?;
-    Ok(check_framed(&pile, &beam(in_frame)?, &cage))
+    Ok(check_framed(&STANDARD_PILE, &beam(in_frame)?, &cage))
 }
 
 #[test]

@@ -1,4 +1,4 @@
-use books::approved_row::ApprovedRow;
+use books::approved::ApprovedRow;
 use rebar::cage::{Bars, Cage, Ties};
 
 // A card, and a cage for its beam.

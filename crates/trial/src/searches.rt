@@ -5,12 +5,12 @@ ghost use Rattle.rebar.specs.Order.{numbers};
 
 use crate::reference::beam;
 use books::book::Book;
-use books::frame::Frame;
 use books::general::General;
+use books::pile::STANDARD_PILE;
 use rebar::beam::Beam;
 use rebar::cage::{Bars, Cage, Ties};
 use search::decision::Decision;
-use search::lightest::design;
+use search::lightest::lightest_cage;
 use std::process::Abort;
 use std::test::Fail;
 use stock::stock::Stock;
@@ -74,7 +74,7 @@ fn small_stock(rt: &impl Abort) -> Result<Stock, Fail> {
 
 #[test]
 fn lightest_and_smallest_cage(rt: HostRuntime) -> Result<(), Fail> {
-    let found = design(&Always(0), &beam(false)?, &small_stock(&rt)?);
+    let found = lightest_cage(&Always(0), &beam(false)?, &small_stock(&rt)?);
     let Decision::Chosen(choice) = found else {
         return Err(Fail::new("every cage passes"));
     };
@@ -85,7 +85,7 @@ fn lightest_and_smallest_cage(rt: HostRuntime) -> Result<(), Fail> {
 
 #[test]
 fn greatest_refusal(rt: HostRuntime) -> Result<(), Fail> {
-    let found = design(&Always(255), &beam(false)?, &small_stock(&rt)?);
+    let found = lightest_cage(&Always(255), &beam(false)?, &small_stock(&rt)?);
     let Decision::Impossible(number) = found else {
         return Err(Fail::new("no cage passes"));
     };
@@ -102,7 +102,7 @@ fn cage_at_the_end_of_the_ranges(rt: HostRuntime) -> Result<(), Fail> {
         top: bars,
         ties,
     };
-    let found = design(&Only(last), &beam(false)?, &stock_of(11, 5)?);
+    let found = lightest_cage(&Only(last), &beam(false)?, &stock_of(11, 5)?);
     let Decision::Chosen(choice) = found else {
         return Err(Fail::new("the last cage passes"));
     };
@@ -113,7 +113,7 @@ fn cage_at_the_end_of_the_ranges(rt: HostRuntime) -> Result<(), Fail> {
 
 #[test]
 fn heavier_ties(rt: HostRuntime) -> Result<(), Fail> {
-    let found = design(&General, &beam(false)?, &stock_of(5, 4)?);
+    let found = lightest_cage(&General, &beam(false)?, &stock_of(5, 4)?);
     let Decision::Chosen(choice) = found else {
         return Err(Fail::new("some cage passes"));
     };
@@ -124,8 +124,7 @@ fn heavier_ties(rt: HostRuntime) -> Result<(), Fail> {
 
 #[test]
 fn bars_too_thick(rt: HostRuntime) -> Result<(), Fail> {
-    let pile = Frame { below: General };
-    let found = design(&pile, &beam(true)?, &stock_of(11, 3)?);
+    let found = lightest_cage(&STANDARD_PILE, &beam(true)?, &stock_of(11, 3)?);
     let Decision::Impossible(number) = found else {
         return Err(Fail::new("no cage passes"));
     };

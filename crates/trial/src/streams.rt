@@ -1,6 +1,5 @@
 use crate::reference::CARD;
-use books::frame::Frame;
-use books::general::General;
+use books::pile::STANDARD_PILE;
 use console::page::{PageTooShort, answer_on_page};
 use console::stream::answer_orders;
 use std::alloc::AllocError;
@@ -10,9 +9,6 @@ use std::io::{ErrorKind, Read, Write};
 use std::process::Abort;
 use std::test::Fail;
 
-// The pile of the program `cages`.
-const PILE: Frame<General> = Frame { below: General };
-
 // Whether the console writes these bytes on a page of 39 bytes for each byte of the stream and 2,465 more, however the stream
 // is cut in two, and refuses a page with a byte less.
 fn answers(rt: &(impl Abort + AllocGlobal), stream: &[u8], expected: &[u8]) -> Result<(), Fail> {
@@ -20,14 +16,14 @@ fn answers(rt: &(impl Abort + AllocGlobal), stream: &[u8], expected: &[u8]) -> R
     let mut page = vec![in rt.alloc(); 0; length]?;
     for cut in 0..=stream.len() {
         let (front, back) = stream.split_at(cut);
-        let written = answer_on_page(PILE, &[front, back], page.as_mut_slice());
+        let written = answer_on_page(STANDARD_PILE, &[front, back], page.as_mut_slice());
         let text = page
             .as_slice()
             .get(..written.map_err(|_| Fail::new("no room"))?);
         assert!(rt; text == Some(expected), "cut at {cut}");
     }
     let mut short = vec![in rt.alloc(); 7; length.saturating_sub(1)]?;
-    let refused = answer_on_page(PILE, &[stream], short.as_mut_slice());
+    let refused = answer_on_page(STANDARD_PILE, &[stream], short.as_mut_slice());
     assert_eq!(rt; refused, Err(PageTooShort));
     assert!(rt; short.as_slice().iter().all(|byte| *byte == 7));
     Ok(())
@@ -160,7 +156,7 @@ fn reader_that_breaks_off(rt: HostRuntime) -> Result<(), Fail> {
         left: b"S\x00\x05\x01S\x01",
     };
     let mut out = Vec::new(rt.alloc());
-    let ended = answer_orders(PILE, &mut reader, &mut out);
+    let ended = answer_orders(STANDARD_PILE, &mut reader, &mut out);
     assert_eq!(rt;
         ended.map_err(|error| error.kind()),
         Err(ErrorKind::BrokenPipe)
@@ -176,7 +172,7 @@ fn reader_at_an_unknown_letter(rt: HostRuntime) -> Result<(), Fail> {
         left: b"S\x00\x05\x01RX\x07",
     };
     let mut out = Vec::new(rt.alloc());
-    answer_orders(PILE, &mut reader, &mut out)?;
+    answer_orders(STANDARD_PILE, &mut reader, &mut out)?;
     assert!(rt; out.as_slice() == b"S 5 OK\nSTOP\nCAGES\nTOTAL 0 0\n".as_slice());
     Ok(())
 }
@@ -230,7 +226,7 @@ fn lines_before_the_next_read(rt: HostRuntime) -> Result<(), Fail> {
         held: &held,
         left: b"S\x00\x05\x01E\x07\x00X\x07",
     };
-    answer_orders(PILE, &mut orders, &mut Held { held: &held })?;
+    answer_orders(STANDARD_PILE, &mut orders, &mut Held { held: &held })?;
     assert_eq!(rt; held.get(), 0);
     Ok(())
 }
@@ -260,7 +256,7 @@ impl Write for Fills {
 fn sink_that_fills(rt: HostRuntime) -> Result<(), Fail> {
     for room in 0..52 {
         let mut orders = b"S\x00\x05\x01S\x01\x03\x01X\x07R".as_slice();
-        let ended = answer_orders(PILE, &mut orders, &mut Fills { room });
+        let ended = answer_orders(STANDARD_PILE, &mut orders, &mut Fills { room });
         assert_eq!(rt; ended.is_ok(), room == 51, "room {room}");
     }
     Ok(())

@@ -10,11 +10,10 @@ use Rattle.rebar.specs.declared.cage.Ties.{Ties}
 use Rattle.rebar.specs.declared.cage.Cage.{Cage}
 use Rattle.books.specs.Rules.{test, over, first_broken}
 use Rattle.books.specs.Numbers.{d_of, q_of, face_depth}
-use Rattle.books.specs.Articles.{outer_row_fits, faces_apart, ductile}
 use Rattle.books.specs.declared.frame.Frame.{Frame}
 use Rattle.books.specs.declared.general.General.{General}
 use Rattle.books.specs.Pile.{framed_answer}
-use Rattle.books.specs.General.{articles_for, general_answer}
+use Rattle.books.specs.General.{outer_row_fits, faces_apart, ductile, articles_for, general_answer}
 use Rattle.books.specs.Frame.{frame_answer}
 use Rattle.stock.specs.Kinds.{known}
 use Rattle.stock.specs.declared.kind.Kind.TheVariants.{Main}

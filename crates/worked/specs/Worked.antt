@@ -11,7 +11,7 @@ use Rattle.rebar.specs.Ranges.{count, main_marks, tie_marks, bar_numbers, spacin
 use Rattle.rebar.specs.Steel.{steel}
 use Rattle.card.specs.Card.{CardAs}
 use Rattle.books.specs.Rules.{first_broken}
-use Rattle.books.specs.Articles.{general}
+use Rattle.books.specs.General.{general}
 use Rattle.books.specs.declared.frame.Frame.{Frame}
 use Rattle.books.specs.declared.general.General.{General}
 use Rattle.books.specs.Pile.{framed_answer}

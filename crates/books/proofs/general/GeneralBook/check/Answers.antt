@@ -8,6 +8,6 @@ pub returns : goal.returns
 unfolding general_answer articles_for
 returns c =
     let l = articles_for c.args.beam.now c.args.cage.now in
-    let e : c.answer.result ≡ first_broken l = c.answer.ensures ∙ c.ask_all.ensures in
+    let e : c.answer.result ≡ first_broken l = c.answer.ensures.number_of_the_broken_or_0 ∙ c.ask_all.ensures in
     let t = tells l _ refl e in
     record { answers_its_meaning = e; passes_exactly_when_every_article_holds = t.0; refusal_names_the_first_broken_article = t.1 }

@@ -6,7 +6,7 @@ use Rattle.sheet.proofs.sheet.Sheet.design.Goals as goal
 pub returns-clause-lightest_stored_or_nothing_changed : goal.returns-clause-lightest_stored_or_nothing_changed
 returns-clause-lightest_stored_or_nothing_changed g c = (
   search rules,
-  (c.in_ok-entry.entry.beam, (c.design-decision.result, (search rules, c.design-decision.ensures.lightest_or_none, search rules))),
+  (c.in_ok-entry.entry.beam, (c.lightest_cage-decision.result, (search rules, c.lightest_cage-decision.ensures.lightest_or_none, search rules))),
 )
 
 pub returns-clause-history_grows_by_this_call : goal.returns-clause-history_grows_by_this_call

@@ -2,7 +2,7 @@ use Rattle.std.proofs.Common.{◌≡◌, ◌<◌}
 use Rattle.stock.specs.Stock.{has}
 use Rattle.search.specs.Lightest.{FromStock}
 use Rattle.search.specs.Search.{Step, Done, mark_place, spacing_place}
-use Rattle.search.proofs.searching.Search.weigh_spacings.Given as goal
+use Rattle.search.proofs.lightest.Search.weigh_spacings.Given as goal
 
 abbrev pub invariant-loop-t : goal.invariant-loop-t
 invariant-loop-t g l =

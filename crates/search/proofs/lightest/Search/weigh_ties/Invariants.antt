@@ -2,7 +2,7 @@ use Rattle.std.proofs.Common.{◌≡◌, ◌<◌}
 use Rattle.stock.specs.Stock.{has}
 use Rattle.search.specs.Lightest.{FromStock}
 use Rattle.search.specs.Search.{Step, Done, mark_place}
-use Rattle.search.proofs.searching.Search.weigh_ties.Given as goal
+use Rattle.search.proofs.lightest.Search.weigh_ties.Given as goal
 
 abbrev pub invariant-loop-mark : goal.invariant-loop-mark
 invariant-loop-mark g l =

@@ -2,7 +2,7 @@ use Rattle.std.proofs.Common.{◌<◌}
 use Rattle.stock.specs.Stock.{has}
 use Rattle.search.specs.Lightest.{FromStock}
 use Rattle.search.specs.Search.{Step, Done, bars_place}
-use Rattle.search.proofs.searching.Search.weigh_bottoms.Given as goal
+use Rattle.search.proofs.lightest.Search.weigh_bottoms.Given as goal
 
 abbrev pub invariant-loop-bottom : goal.invariant-loop-bottom
 invariant-loop-bottom g l =
