@@ -3,11 +3,16 @@ use Rattle.std.specs.Prelude.{ℕ, List, ◌++◌, codes, decimal}
 use Rattle.rebar.specs.declared.cage.Bars.{Bars}
 use Rattle.rebar.specs.declared.cage.Ties.{Ties}
 use Rattle.search.specs.declared.decision.Choice.{Choice}
+use Rattle.bill.specs.declared.bill.TheConstants.{MOST_LINES}
 use Rattle.bill.specs.Text.{two}
 
 -- a bill has no more lines than this
 abbrev pub most_lines : ℕ
-most_lines = 64
+most_lines = MOST_LINES
+
+-- no line has more steel than this, in mm³
+abbrev pub greatest_steel : ℕ
+greatest_steel = 4294967295
 
 -- number#mark
 abbrev pub bars_text : Bars → List ℕ
@@ -28,7 +33,8 @@ line_text place x =
 
 -- the last line: how many lines, and their summed steel
 abbrev pub total_text : ℕ → ℕ → List ℕ
-total_text lines steel = codes "TOTAL " ++ (decimal lines ++ (codes " " ++ (decimal steel ++ codes "\n")))
+total_text lines steel =
+    codes "TOTAL " ++ (decimal lines ++ (codes " " ++ (decimal steel ++ codes "\n")))
 
 -- the first line
 abbrev pub head_text : List ℕ

@@ -1,9 +1,11 @@
 -- What a whole bill is, and how its calls make one.
 use Rattle.std.specs.Prelude.{◌≡◌, ℕ, List, [], ◌∷◌, ◌++◌, length, take, sum_by, flat_map, Result, IfOk}
+use Rattle.std.specs.Option.{option_map_or}
 use Rattle.search.specs.declared.decision.Choice.{Choice}
 use Rattle.sheet.specs.declared.reading.Reading.{Reading}
 use Rattle.sheet.specs.declared.reading.Shown.{Shown}
-use Rattle.sheet.specs.declared.reading.Shown.TheVariants.{Empty, Open, Chosen, Impossible}
+use Rattle.sheet.specs.declared.reading.Shown.TheVariants.{Chosen}
+use Rattle.sheet.specs.Places.{choice_of}
 use Rattle.bill.specs.Bill.{line_text, total_text, head_text}
 use Rattle.bill.specs.declared.bill.Begun.{Begun}
 use Rattle.bill.specs.declared.bill.Refused.{Refused}
@@ -12,10 +14,7 @@ use Rattle.bill.specs.declared.refusal.Refusal.{Refusal}
 
 -- a place makes a line where it shows a chosen cage
 abbrev pub line_at : ℕ → Shown → List (ℕ × Choice)
-line_at p Empty = []
-line_at p Open = []
-line_at p (Chosen x) = (p, x) ∷ []
-line_at p (Impossible n) = []
+line_at p shown = option_map_or (λ x. (p, x) ∷ []) (choice_of shown) []
 
 -- the lines of chosen cages, each with its place
 abbrev pub lines_text : List (ℕ × Choice) → List ℕ
@@ -29,7 +28,8 @@ steel_of = sum_by (λ l. l.1.steel)
 abbrev pub bill_text : List (ℕ × Choice) → List ℕ
 bill_text lines = (head_text ++ lines_text lines) ++ total_text (length lines) (steel_of lines)
 
--- a begun bill has these lines: head and lines are the first bytes of the page, and the bill's numbers are theirs
+-- a begun bill has these lines: head and lines are the first bytes of the page, and the bill's
+-- numbers are theirs
 pub record HasLines (lines : List (ℕ × Choice)) (page : List ℕ) (bill : Begun) : Type 0 where
   pub bytes : take bill.written page ≡ head_text ++ lines_text lines
   pub written : bill.written ≡ length (head_text ++ lines_text lines)
@@ -45,11 +45,15 @@ unfoldable pub TakesLine : Begun → List ℕ → Reading → Result Begun Refus
 TakesLine bill page reading r page' =
     IfOk r
     (λ bill'. (lines : List (ℕ × Choice)) → HasLines lines page bill
-    → (x : Choice) × ((reading.shown ≡ Chosen x) × HasLines (lines ++ (reading.place, x) ∷ []) page' bill'))
+    → (x : Choice)
+    × ((reading.shown ≡ Chosen x)
+    × HasLines (lines ++ (reading.place, x) ∷ []) page' bill'))
 
--- with a total that is not refused, the first bytes of the page are the whole bill of the lines that it has
+-- with a total that is not refused, the first bytes of the page are the whole bill of the lines
+-- that it has
 unfoldable pub EndsBill : Begun → List ℕ → Result Totalled Refused → List ℕ → Type 0
 EndsBill bill page r page' =
     IfOk r
     (λ totalled. (lines : List (ℕ × Choice)) → HasLines lines page bill
-    → (take totalled.written page' ≡ bill_text lines) × (totalled.written ≡ length (bill_text lines)))
+    → (take totalled.written page' ≡ bill_text lines)
+    × (totalled.written ≡ length (bill_text lines)))

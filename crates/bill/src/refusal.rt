@@ -1,12 +1,15 @@
 ghost use Rattle.std.specs.Prelude.{◌≡◌};
 ghost use Rattle.bill.specs.Refusals.{refusal_number};
 
-// Why a step is refused.
+/// Why a step is refused. Each is reported by a number (`u8::from`).
 #[derive(Clone, Copy, Debug, PartialEq, Eq)]
 pub enum Refusal {
-    PageShort, // there is no room on it for the new bytes
-    NotChosen, // the reading is not of a chosen place
-    Full, // it has 64 lines
+    /// 11: there is no room on the page for the new bytes.
+    PageShort,
+    /// 12: the reading is not of a chosen place.
+    NotChosen,
+    /// 13: the bill has `MOST_LINES` lines.
+    Full,
 }
 
 // The number under which the refusal is reported.

@@ -6,6 +6,7 @@ use Rattle.rebar.specs.declared.cage.Cage.{Cage}
 use Rattle.sheet.specs.declared.call.Call.{Call}
 use Rattle.sheet.specs.declared.reading.Shown.{Shown}
 use Rattle.sheet.specs.declared.reading.Shown.TheVariants.{Empty, Open, Chosen, Impossible}
+use Rattle.sheet.specs.Size.{place_count}
 use Rattle.sheet.specs.Law.{calls_of, Lawful}
 use Rattle.bill.specs.Whole.{line_at}
 use Rattle.console.specs.Bills.{lines_below}
@@ -33,4 +34,4 @@ all_lightest pile calls shown h (suc n) =
 
 pub shows_lightest : (pile : Beam → Cage → ℕ) (stream out : List ℕ) → IsPrinted pile stream out → ShowsLightest pile stream out
 shows_lightest pile stream out p =
-    record { printed = p; lightest = all_lightest pile (calls_of p.exchanges) p.shown p.lawful 64 }
+    record { printed = p; lightest = all_lightest pile (calls_of p.exchanges) p.shown p.lawful place_count }

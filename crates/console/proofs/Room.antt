@@ -1,5 +1,5 @@
 -- How long a bill can get, and what one line more makes of it.
-use Rattle.std.proofs.Common.{◌≡◌, ◌⊎◌, inl, inr, ℕ, ◌+◌, ◌<◌, ◌≤◌, Bool, true, false, cond, List, [], ◌∷◌, ◌++◌, length, take, codes, decimal, nat_lt, Some, None, Ok, Err, sym, refl, ap, ◌∙◌, subst, arith, length-append, append-nil, add-one, ltb-false}
+use Rattle.std.proofs.Common.{◌≡◌, ℕ, ◌+◌, ◌<◌, ◌≤◌, true, false, List, [], ◌∷◌, ◌++◌, length, take, codes, decimal, nat_lt, Some, None, Ok, Err, sym, refl, ap, ◌∙◌, subst, arith, length-append, append-nil, add-one}
 use Rattle.std.proofs.lemmas.Option.{none-some}
 use Rattle.std.proofs.lemmas.Fmt.{length-decimal-le}
 use Rattle.std.proofs.lemmas.Bool.Decides.{nat_tests}
@@ -8,16 +8,17 @@ use Rattle.rebar.specs.declared.cage.Ties.{Ties}
 use Rattle.search.specs.declared.decision.Choice.{Choice}
 use Rattle.sheet.specs.declared.reading.Reading.{Reading}
 use Rattle.sheet.specs.declared.reading.Shown.{Shown}
-use Rattle.sheet.specs.declared.reading.Shown.TheVariants.{Empty, Open, Chosen, Impossible}
+use Rattle.sheet.specs.declared.reading.Shown.TheVariants.{Chosen}
+use Rattle.sheet.specs.Size.{place_count}
+use Rattle.sheet.specs.Places.{choice_of}
 use Rattle.bill.specs.Text.{two}
-use Rattle.bill.specs.Bill.{bars_text, ties_text, line_text, total_text, head_text}
+use Rattle.bill.specs.Bill.{most_lines, bars_text, ties_text, line_text, total_text, head_text}
 use Rattle.bill.specs.Steps.{short, why_line, Added, BegunAs, LineAs, TotalAs}
 use Rattle.bill.specs.Whole.{HasLines, bill_text, BeginsBill, TakesLine, EndsBill, line_at}
 use Rattle.bill.specs.declared.bill.Begun.{Begun}
 use Rattle.bill.specs.declared.bill.Refused.{Refused}
 use Rattle.bill.specs.declared.bill.Totalled.{Totalled}
 use Rattle.bill.specs.declared.refusal.Refusal.{Refusal}
-use Rattle.bill.specs.declared.refusal.Refusal.TheVariants.{PageShort}
 use Rattle.bill.proofs.Pages.{has_room}
 use Rattle.console.specs.Bills.{lines_below}
 use Rattle.console.specs.declared.billing.TheConstants.{PAGE}
@@ -73,24 +74,24 @@ left_out bill page shown place n s more e none b =
     }
 
 -- a line that the page has room for is not refused
-not_refused : (bill : Begun) (page : List ℕ) (place : ℕ) (x : Choice) (e : Refusal) → bill.lines < 64 → bill.written + 38 ≤ length page
-    → why_line bill page place (Chosen x) ≡ Some e → ⊥
-not_refused bill page place x e few room h =
+not_refused : (bill : Begun) (page : List ℕ) (place : ℕ) (x : Choice) (e : Refusal) → bill.lines < most_lines → bill.written + 38 ≤ length page
+    → (s : Shown) → choice_of s ≡ Some x → why_line bill page place s ≡ Some e → ⊥
+not_refused bill page place x e few room s chosen h =
     let l = line_length place x in
-    let t : nat_lt bill.lines 64 ≡ true = grind (arith, nat_tests) in
+    let t : nat_lt bill.lines most_lines ≡ true = grind (arith, nat_tests) in
     let f : nat_lt (length page) (bill.written + length (line_text place x)) ≡ false = grind (arith, nat_tests) in
-    none-some e (sym (rw (t, f) refl) ∙ h)
+    none-some e (sym (rw (chosen, t, f) refl) ∙ h)
 
 -- a chosen place makes one
-pub line_more : (bill bill' : Begun) (page page' : List ℕ) (shown : ℕ → Shown) (place : ℕ) (reading : Reading) (x : Choice)
-    → length page' ≡ length page → reading.place ≡ place → reading.shown ≡ shown place → reading.shown ≡ Chosen x
+pub line_more : (bill bill' : Begun) (page page' : List ℕ) (shown : ℕ → Shown) (place : ℕ) (reading : Reading)
+    → length page' ≡ length page → reading.place ≡ place → reading.shown ≡ shown place
     → LineAs bill page reading (Ok bill') page' → TakesLine bill page reading (Ok bill') page'
     → Billed shown place page bill → Billed shown (place + 1) page' bill'
 unfolding TakesLine
-line_more bill bill' page page' shown place reading x long at is chosen l takes b =
+line_more bill bill' page page' shown place reading long at is l takes b =
     let t = takes (lines_below shown place) b.lines in
-    let a = added l.1 in
-    let size = line_length reading.place x in
+    let a = added t.0 t.1.0 l.1 in
+    let size = line_length reading.place t.0 in
     record {
       lines = subst (λ (ls : List (ℕ × Choice)). HasLines ls page' bill')
           (ap (λ (p : ℕ). lines_below shown place ++ (p, t.0) ∷ []) at ∙ sym (next_lines shown place (Chosen t.0) (sym is ∙ t.1.0))) t.1.1;
@@ -99,19 +100,20 @@ line_more bill bill' page page' shown place reading x long at is chosen l takes 
       room = long ∙ b.room;
     }
   where
-    added : Added bill page reading.place reading.shown bill' page' → (bill'.written ≡ bill.written + length (line_text reading.place x)) × (bill'.lines ≡ bill.lines + 1)
-    added d = let c : Added bill page reading.place (Chosen x) bill' page' = subst (λ (s : Shown). Added bill page reading.place s bill' page') chosen d in (c.0.1, c.1)
+    added : (x : Choice) → reading.shown ≡ Chosen x → Added bill page reading.place reading.shown bill' page'
+        → (bill'.written ≡ bill.written + length (line_text reading.place x)) × (bill'.lines ≡ bill.lines + 1)
+    added x chosen d = let c : Added bill page reading.place (Chosen x) bill' page' = subst (λ (s : Shown). Added bill page reading.place s bill' page') chosen d in (c.0.1, c.1)
 
 pub line_fits : (bill : Begun) (page page' : List ℕ) (shown : ℕ → Shown) (place : ℕ) (reading : Reading) (x : Choice) (e : Refused)
-    → place < 64 → reading.shown ≡ Chosen x → LineAs bill page reading (Err e) page' → Billed shown place page bill → ⊥
+    → place < place_count → choice_of reading.shown ≡ Some x → LineAs bill page reading (Err e) page' → Billed shown place page bill → ⊥
 line_fits bill page page' shown place reading x e small chosen l b =
     not_refused bill page reading.place x e.refusal (omega (arith, b.few, small)) (omega (arith, b.short, b.room, small))
-    (ap (λ (s : Shown). why_line bill page reading.place s) (sym chosen) ∙ l.0)
+    reading.shown chosen l.0
 
 total_length : (b : Begun) → length (total_text b.lines b.steel) ≤ 22
 total_length b =
-    let n = length-decimal-le 2 b.lines (omega arith) (omega (arith, b.few)) (omega (arith, b.few)) in
-    let s = length-decimal-le 12 b.steel (omega arith) (omega (arith, b.few, b.light)) (omega (arith, b.few, b.light)) in
+    let n = length-decimal-le 2 b.lines (omega arith) (omega (arith, b.within_most_lines)) (omega (arith, b.within_most_lines)) in
+    let s = length-decimal-le 12 b.steel (omega arith) (omega (arith, b.within_most_lines, b.steel_of_its_lines)) (omega (arith, b.within_most_lines, b.steel_of_its_lines)) in
     rw (
       length-append (codes "TOTAL ") (decimal b.lines ++ (codes " " ++ (decimal b.steel ++ codes "\n"))),
       length-append (decimal b.lines) (codes " " ++ (decimal b.steel ++ codes "\n")),
@@ -135,18 +137,16 @@ module _ (page page' : List ℕ) (shown : ℕ → Shown) (long : length page' �
   pub begin_fits : (e : Refusal) → BegunAs page (Err e) page' → length page ≡ PAGE → ⊥
   begin_fits e h room = roomy_enough page head_text 0 e (omega (arith, room)) h.0
 
-  pub ended_bill : (bill : Begun) (t : Totalled) → EndsBill bill page (Ok t) page' → TotalAs bill page (Ok t) page' → Billed shown 64 page bill
-      → (take t.written page' ≡ bill_text (lines_below shown 64)) × (t.written ≤ PAGE)
+  pub ended_bill : (bill : Begun) (t : Totalled) → EndsBill bill page (Ok t) page' → TotalAs bill page (Ok t) page' → Billed shown place_count page bill
+      → (take t.written page' ≡ bill_text (lines_below shown place_count)) × (t.written ≤ PAGE)
   unfolding EndsBill
   ended_bill bill t h a b =
       let there = has_room page (total_text bill.lines bill.steel) bill.written a.0 in
-      ((h (lines_below shown 64) b.lines).0, omega (arith, a.1.1, there, b.room))
+      ((h (lines_below shown place_count) b.lines).0, omega (arith, a.1.1, there, b.room))
 
-  pub total_fits : (bill : Begun) (e : Refused) → TotalAs bill page (Err e) page' → Billed shown 64 page bill → ⊥
+  pub total_fits : (bill : Begun) (e : Refused) → TotalAs bill page (Err e) page' → Billed shown place_count page bill → ⊥
   total_fits bill e h b = roomy_enough page (total_text bill.lines bill.steel) bill.written e.refusal (omega (arith, b.room, b.short, total_length bill)) h.0
 
 -- a place that shows no chosen cage makes no line
-pub no_line : (p : ℕ) (s : Shown) → (s ≡ Empty) ⊎ ((s ≡ Open) ⊎ ((n : ℕ) × (s ≡ Impossible n))) → line_at p s ≡ []
-no_line p s (inl e) = ap (line_at p) e
-no_line p s (inr (inl e)) = ap (line_at p) e
-no_line p s (inr (inr (n, e))) = ap (line_at p) e
+pub no_line : (p : ℕ) (s : Shown) → choice_of s ≡ None → line_at p s ≡ []
+no_line p s e = rw e refl

@@ -7,12 +7,12 @@ ghost use Rattle.console.specs.Bills.{lines_below};
 
 use bill::bill::{Begun, Refused};
 use books::book::Book;
-use sheet::reading::Shown;
+use sheet::place::PLACES;
 use sheet::sheet::Sheet;
 
-// A page of this length has room for a bill of 64 places: a head of 6 bytes, lines of 38 at most, and a
-// total of 22 at most.
-pub(crate) const PAGE: usize = 6 + 64 * 38 + 22;
+// A page of this length has room for a bill of all places: a head of 6 bytes, lines of 38 at most,
+// and a total of 22 at most.
+pub(crate) const PAGE: usize = 6 + PLACES as usize * 38 + 22;
 
 // A bill of no line yet.
 fn begin<P: Book>(page: &mut [u8], sheet: &Sheet<P>) -> Begun
@@ -34,12 +34,12 @@ fn add_line<P: Book>(bill: Begun, page: &mut [u8], sheet: &Sheet<P>, place: u8) 
     let Ok(reading) = sheet.read(place) else {
         return bill;
     };
-    match reading.shown {
-        Shown::Chosen(_) => match bill.line(page, &reading) {
+    match reading.shown.choice() {
+        Some(_) => match bill.line(page, &reading) {
             Ok(longer) => longer,
             Err(Refused { bill, refusal: _ }) => bill,
         },
-        Shown::Empty | Shown::Open | Shown::Impossible(_) => bill,
+        None => bill,
     }
 }
 
@@ -49,7 +49,7 @@ fn add_lines<P: Book>(begun: Begun, page: &mut [u8], sheet: &Sheet<P>) -> Begun
     ensures { Billed (shown_at sheet.now) place_count page.new result }
 {
     let mut bill = begun;
-    for place in 0..64 {
+    for place in 0..PLACES {
         bill = add_line(bill, page, sheet, place);
     }
     bill

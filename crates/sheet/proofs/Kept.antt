@@ -21,6 +21,7 @@ use Rattle.sheet.specs.declared.call.Call.{Call}
 use Rattle.sheet.specs.declared.entry.Entry.{Entry}
 use Rattle.sheet.specs.declared.table.Table.{Table}
 use Rattle.sheet.specs.Places.{beam_of, decided, uses, doubtful, kept, place_reopened}
+use Rattle.sheet.specs.Size.{last_place, place_count}
 use Rattle.sheet.specs.Table.{place_at, restocked}
 use Rattle.sheet.specs.Calls.{why}
 use Rattle.sheet.specs.History.{marks, in_after, stocked_after, card_after, why_after, If, Stands, designs_after}
@@ -64,7 +65,7 @@ AgreesBy (Some d) S = S d × ((e : Decision) → S e → e ≡ d)
 -- what holds of a table, where these cards lie at the places, these marks are in, these decisions stand, and there were so many
 -- designs
 pub record KeptBy (pile : Beam → Cage → ℕ) (cards : ℕ → Option (List ℕ)) (got : Kind → ℕ → Bool) (S : ℕ → Decision → Type 0) (designs : ℕ) (t : Table) : Type 0 where
-  pub places : length t.places ≡ 64
+  pub places : length t.places ≡ place_count
   pub mains : length t.stock.main ≡ 9
   pub ties : length t.stock.tie ≡ 3
   pub holds : (q : ℕ) → Holds (cards q) (place_at t q)
@@ -77,7 +78,7 @@ abbrev pub Kept : (Beam → Cage → ℕ) → List Call → Table → Type 0
 Kept pile calls t = KeptBy pile (card_after calls) (in_after calls) (Stands pile calls) (designs_after calls) t
 
 -- one place is written, and the others stay
-placed : (xs : List (Option Entry)) (p : ℕ) (x : Option Entry) → length xs ≡ 64 → p ≤ 63 → (q : ℕ)
+placed : (xs : List (Option Entry)) (p : ℕ) (x : Option Entry) → length xs ≡ place_count → p ≤ last_place → (q : ℕ)
     → slice_index_or (slice_set xs p x) q None ≡ cond (p == q) x (slice_index_or xs q None)
 placed xs p x l h q =
     let within : p < length xs = omega (arith, l, h) in
@@ -189,7 +190,7 @@ ties_after s Tie m b l = length-set s.tie (m - 3) b ∙ l
 module _ {pile : Beam → Cage → ℕ} {cards : ℕ → Option (List ℕ)} {got : Kind → ℕ → Bool} {S : ℕ → Decision → Type 0} {designs : ℕ} {t : Table}
     (k : KeptBy pile cards got S designs t) where
   -- the table with one place written
-  pub written : (p : ℕ) → p ≤ 63 → (x : Option Entry) → Right pile (has t.stock) x
+  pub written : (p : ℕ) → p ≤ last_place → (x : Option Entry) → Right pile (has t.stock) x
       → (cards' : ℕ → Option (List ℕ)) → ((q : ℕ) → Holds (cards' q) (cond (p == q) x (place_at t q)))
       → (S' : ℕ → Decision → Type 0) → ((q : ℕ) → AgreesBy (decision_at (cond (p == q) x (place_at t q))) (S' q))
       → (n count : ℕ) → count ≡ min n 4294967295

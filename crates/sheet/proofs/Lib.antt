@@ -1,6 +1,6 @@
 pub mod Numbers
 pub mod Marks
-pub mod Takes
+pub mod CardsPut
 pub mod StockAfter
 pub mod Kept
 pub mod Runs

@@ -26,8 +26,9 @@ use Rattle.sheet.specs.declared.refusal.Refusal.{Refusal}
 use Rattle.sheet.specs.declared.refusal.Refusal.TheVariants.{NoSuchPlace, PlaceEmpty, NothingInStock, NoSuchMark}
 use Rattle.sheet.specs.declared.table.Table.{Table}
 use Rattle.sheet.specs.Places.{beam_of, opened, decided, doubtful, shown_of, shown_by}
+use Rattle.sheet.specs.Size.{last_place, place_count}
 use Rattle.sheet.specs.Table.{place_at, with_place, restocked, settled}
-use Rattle.sheet.specs.Calls.{at_place, why, is_known, Takes, Does, Makes, Reads}
+use Rattle.sheet.specs.Calls.{at_place, why, is_known, PutsCard, Does, Makes, Reads}
 use Rattle.sheet.specs.History.{in_after, stocked_after, card_by, card_after, why_after, in_by_number, If, doubts, StandsBy, Stands, designs_by, designs_after, IsBeamAfter}
 use Rattle.sheet.specs.Law.{IsRight, IsDecided, IsDecidedByDesign, Lawful}
 use Rattle.sheet.specs.Runs.{Run, opened as run_opened, made, Grows, ReadsLawfully, CountsDesigns}
@@ -79,12 +80,12 @@ in_refused calls (call.Stock kind mark b) e h k m = sym (ap (λ v. cond v b (in_
 in_refused calls c e h k m = refl
 
 -- a call that is not refused for its place has one
-there : (p : ℕ) (o : Option Refusal) → at_place p o ≡ None → p ≤ 63
-there p o h = go (nat_lt 63 p) refl
+there : (p : ℕ) (o : Option Refusal) → at_place p o ≡ None → p ≤ last_place
+there p o h = go (nat_lt last_place p) refl
   where
-    go : (v : Bool) → nat_lt 63 p ≡ v → p ≤ 63
+    go : (v : Bool) → nat_lt last_place p ≡ v → p ≤ last_place
     go true e = absurd (none-some _ (sym h ∙ ap (λ v. cond v (Some NoSuchPlace) o) e))
-    go false e = ltb-false 63 p e
+    go false e = ltb-false last_place p e
 
 one_more : (n m : ℕ) → n ≡ min m 4294967295 → min (n + 1) 4294967295 ≡ min (suc m) 4294967295
 one_more n m e = omega (arith, e)
@@ -117,16 +118,16 @@ module _ (pile : Beam → Cage → ℕ) (calls : List Call) (t : Table) (k : Kep
       KeptBy pile (λ q. card_by c q (card_after calls q)) (in_after (c ∷ calls)) (λ q d. StandsBy pile calls c q d (Stands pile calls q d))
       (designs_by c (designs_after calls)) t'
 
-  -- a card is taken to a place
-  takes : (p : ℕ) (card : List ℕ) (t' : Table) → p ≤ 63 → Takes p card t t'
+  -- the beam of a card is put at a place
+  puts_card : (p : ℕ) (card : List ℕ) (t' : Table) → p ≤ last_place → PutsCard p card t t'
       → KeptBy pile (λ q. cond (p == q) (Some card) (card_after calls q)) (in_after calls) (λ q d. If (p == q) ⊥ (Stands pile calls q d)) (designs_after calls) t'
-  takes p card t' h (b, (c, e)) =
+  puts_card p card t' h (b, (c, e)) =
       subst (λ (v : Table). KeptBy pile (λ q. cond (p == q) (Some card) (card_after calls q)) (in_after calls) (λ q d. If (p == q) ⊥ (Stands pile calls q d)) (designs_after calls) v) (sym e)
       (written k p h (Some (opened b)) tt _
       (λ q. both (λ card b. CardAs card (Ok b)) (p == q) (Some card) (card_after calls q) (Some (opened b)) (place_at t q) c (k.holds q)) _
       (λ q. ended (p == q) (Stands pile calls q) (Some (opened b)) (place_at t q) refl (k.stands q)) (designs_after calls) t.count k.count)
 
-  empties : (p : ℕ) (t' : Table) → p ≤ 63 → t' ≡ with_place t p None
+  empties : (p : ℕ) (t' : Table) → p ≤ last_place → t' ≡ with_place t p None
       → KeptBy pile (λ q. cond (p == q) None (card_after calls q)) (in_after calls) (λ q d. If (p == q) ⊥ (Stands pile calls q d)) (designs_after calls) t'
   empties p t' h e =
       subst (λ (v : Table). KeptBy pile (λ q. cond (p == q) None (card_after calls q)) (in_after calls) (λ q d. If (p == q) ⊥ (Stands pile calls q d)) (designs_after calls) v) (sym e)
@@ -138,7 +139,7 @@ module _ (pile : Beam → Cage → ℕ) (calls : List Call) (t : Table) (k : Kep
   abbrev Designed : ℕ → ℕ → Decision → Type 0
   Designed p q d = If (p == q) ((b : Beam) × (IsBeamAfter calls q b × Lightest pile (in_after calls) b d)) (Stands pile calls q d)
 
-  settles : (p : ℕ) (b : Beam) (d : Decision) (t' : Table) → p ≤ 63 → beam_of (place_at t p) ≡ Some b → Lightest pile (has t.stock) b d → t' ≡ settled p b d t
+  settles : (p : ℕ) (b : Beam) (d : Decision) (t' : Table) → p ≤ last_place → beam_of (place_at t p) ≡ Some b → Lightest pile (has t.stock) b d → t' ≡ settled p b d t
       → KeptBy pile (card_after calls) (in_after calls) (Designed p) (suc (designs_after calls)) t'
   settles p b d t' h is l e =
       subst (λ (v : Table). KeptBy pile (card_after calls) (in_after calls) (Designed p) (suc (designs_after calls)) v) (sym e)
@@ -186,8 +187,8 @@ module _ (pile : Beam → Cage → ℕ) (calls : List Call) (t : Table) (k : Kep
   unchanged t' e = subst (λ (v : Table). Kept pile calls v) (sym e) k
 
   done : (c : Call) (t' : Table) → why_after calls c ≡ None → Does pile t c t' → After c t'
-  done (call.Enter p card) t' w d = takes p card.now t' (there p _ w) d
-  done (call.Correct p card) t' w d = takes p card.now t' (there p _ w) d
+  done (call.Enter p card) t' w d = puts_card p card.now t' (there p _ w) d
+  done (call.Correct p card) t' w d = puts_card p card.now t' (there p _ w) d
   done (call.Strike p) t' w d = empties p t' (there p _ w) d
   done (call.Stock kind mark b) t' w d = restocks kind mark b t' (accepted_mark kind mark w) d.0 d.1.0 d.1.1
   done (call.Design p) t' w d = settles p d.0 d.1.0 t' (there p _ w) d.1.1.0 d.1.1.1 d.1.1.2
@@ -217,7 +218,7 @@ why_is pile t c (Some e) t' m = m.0
 pub kept : {pile : Beam → Cage → ℕ} {calls : List Call} {t : Table} → Run pile calls t → Kept pile calls t
 unfolding has
 kept {pile} {t = t} (run_opened n) =
-    let at : (q : ℕ) → place_at t q ≡ None = λ q. ap (λ xs. slice_index_or xs q None) n.0 ∙ all_alike None 64 q in
+    let at : (q : ℕ) → place_at t q ≡ None = λ q. ap (λ xs. slice_index_or xs q None) n.0 ∙ all_alike None place_count q in
     record {
       places = ap length n.0;
       mains = ap length n.1.0;
@@ -269,7 +270,7 @@ module _ (pile : Beam → Cage → ℕ) (calls : List Call) (p : ℕ) where
 
 -- a design order that is not refused has a card there
 designed_card : (calls : List Call) (p : ℕ) → why_after calls (call.Design p) ≡ None → is_some (card_after calls p) ≡ true
-designed_card calls p w = go (nat_lt 63 p) (is_some (card_after calls p)) w
+designed_card calls p w = go (nat_lt last_place p) (is_some (card_after calls p)) w
   where
     go : (v u : Bool) → cond v (Some NoSuchPlace) (cond u (cond (stocked_after calls) None (Some NothingInStock)) (Some PlaceEmpty)) ≡ None → u ≡ true
     go true u e = absurd (none-some _ (sym e))

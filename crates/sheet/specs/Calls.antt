@@ -40,20 +40,24 @@ at_place p else = cond (nat_lt last_place p) (Some NoSuchPlace) else
 
 -- whether there is a kind with this number, and the test passes for it
 abbrev pub for_kind : ℕ → (Kind → Bool) → Bool
-for_kind number test = (number == kind_number Main && test Main) || (number == kind_number Tie && test Tie)
+for_kind number test =
+    (number == kind_number Main && test Main) || (number == kind_number Tie && test Tie)
 
 -- whether the yard knows a mark in the kind with this number
 abbrev pub is_known : ℕ → ℕ → Bool
 is_known number mark = for_kind number (λ kind. known kind mark)
 
--- why a call is refused, none where it is not: `holds` says which places hold a beam, and `stocked` whether some main mark and
--- some tie mark is in
+-- why a call is refused, none where it is not: `holds` says which places hold a beam, and `stocked`
+-- whether some main mark and some tie mark is in
 abbrev pub why_refused : (ℕ → Bool) → Bool → Call → Option Refusal
-why_refused holds stocked (Enter p card) = at_place p (cond (holds p) (Some PlaceTaken) (refusal_of (card_fault card.now)))
-why_refused holds stocked (Correct p card) = at_place p (cond (holds p) (refusal_of (card_fault card.now)) (Some PlaceEmpty))
+why_refused holds stocked (Enter p card) =
+    at_place p (cond (holds p) (Some PlaceTaken) (refusal_of (card_fault card.now)))
+why_refused holds stocked (Correct p card) =
+    at_place p (cond (holds p) (refusal_of (card_fault card.now)) (Some PlaceEmpty))
 why_refused holds stocked (Strike p) = at_place p (cond (holds p) None (Some PlaceEmpty))
 why_refused holds stocked (Stock kind mark is-in) = cond (is_known kind mark) None (Some NoSuchMark)
-why_refused holds stocked (Design p) = at_place p (cond (holds p) (cond stocked None (Some NothingInStock)) (Some PlaceEmpty))
+why_refused holds stocked (Design p) =
+    at_place p (cond (holds p) (cond stocked None (Some NothingInStock)) (Some PlaceEmpty))
 why_refused holds stocked (Read p) = at_place p None
 why_refused holds stocked Count = None
 
@@ -62,23 +66,28 @@ abbrev pub why : Table → Call → Option Refusal
 why t = why_refused (λ p. is_some (place_at t p)) (offers_cages t.stock)
 
 -- the table with the beam of a card at a place, open
-abbrev pub Takes : ℕ → List ℕ → Table → Table → Type 0
-Takes p card t t' = (b : Beam) × (CardAs card (Ok b) × (t' ≡ with_place t p (Some (opened b))))
+abbrev pub PutsCard : ℕ → List ℕ → Table → Table → Type 0
+PutsCard p card t t' = (b : Beam) × (CardAs card (Ok b) × (t' ≡ with_place t p (Some (opened b))))
 
 -- the same, or the card's fault, and nothing has changed
-abbrev pub TakesOrRefuses : ℕ → List ℕ → Table → Result Unit Refusal → Table → Type 0
-TakesOrRefuses p card t (Ok _) t' = (card_fault card ≡ None) × Takes p card t t'
-TakesOrRefuses p card t (Err e) t' = (refusal_of (card_fault card) ≡ Some e) × (t' ≡ t)
+abbrev pub PutsCardOrRefuses : ℕ → List ℕ → Table → Result Unit Refusal → Table → Type 0
+PutsCardOrRefuses p card t (Ok _) t' = (card_fault card ≡ None) × PutsCard p card t t'
+PutsCardOrRefuses p card t (Err e) t' = (refusal_of (card_fault card) ≡ Some e) × (t' ≡ t)
 
--- the table after a call that is not refused: a card's beam is open at its place, the place is emptied, the mark of the kind
--- with this number is set, or the lightest cage from stock is stored, or that there is none; reading and counting change nothing
+-- the table after a call that is not refused: a card's beam is open at its place, the place is
+-- emptied, the mark of the kind with this number is set, or the lightest cage from stock is stored,
+-- or that there is none; reading and counting change nothing
 abbrev pub Does : (Beam → Cage → ℕ) → Table → Call → Table → Type 0
-Does answer t (Enter p card) t' = Takes p card.now t t'
-Does answer t (Correct p card) t' = Takes p card.now t t'
+Does answer t (Enter p card) t' = PutsCard p card.now t t'
+Does answer t (Correct p card) t' = PutsCard p card.now t t'
 Does answer t (Strike p) t' = t' ≡ with_place t p None
-Does answer t (Stock kind mark is-in) t' = (k : Kind) × ((kind ≡ kind_number k) × (t' ≡ restocked k mark is-in t))
+Does answer t (Stock kind mark is-in) t' =
+    (k : Kind) × ((kind ≡ kind_number k) × (t' ≡ restocked k mark is-in t))
 Does answer t (Design p) t' =
-    (b : Beam) × ((d : Decision) × ((beam_of (place_at t p) ≡ Some b) × Lightest answer (has t.stock) b d × (t' ≡ settled p b d t)))
+    (b : Beam)
+    × ((d : Decision)
+    × ((beam_of (place_at t p) ≡ Some b) × Lightest answer (has t.stock) b d
+    × (t' ≡ settled p b d t)))
 Does answer t (Read p) t' = t' ≡ t
 Does answer t Count t' = t' ≡ t
 

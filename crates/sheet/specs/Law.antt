@@ -20,14 +20,18 @@ use Rattle.sheet.specs.History.{card_after, IsBeamAfter, in_after, Stands, desig
 
 -- a decision stands, and is right for the beam there and the marks that are in stock now
 abbrev pub IsDecidedAs : (Beam → Cage → ℕ) → List Call → ℕ → Decision → Type 0
-IsDecidedAs pile calls p d = ((b : Beam) × (IsBeamAfter calls p b × Lightest pile (in_after calls) b d)) × Stands pile calls p d
+IsDecidedAs pile calls p d =
+    ((b : Beam) × (IsBeamAfter calls p b × Lightest pile (in_after calls) b d))
+    × Stands pile calls p d
 
--- what a place shows is right: it is empty where no card lies there; open where a card lies there and no decision stands; a
--- chosen cage stands as the decision, and is the lightest from stock that the pile passes for the beam there, with its own steel;
--- and where it is impossible that stands, and none passes
+-- what a place shows is right: it is empty where no card lies there; open where a card lies there
+-- and no decision stands; a chosen cage stands as the decision, and is the lightest from stock that
+-- the pile passes for the beam there, with its own steel; and where it is impossible that stands,
+-- and none passes
 abbrev pub IsRight : (Beam → Cage → ℕ) → List Call → ℕ → Shown → Type 0
 IsRight pile calls p Empty = card_after calls p ≡ None
-IsRight pile calls p Open = ((b : Beam) × IsBeamAfter calls p b) × ((d : Decision) → Stands pile calls p d → ⊥)
+IsRight pile calls p Open =
+    ((b : Beam) × IsBeamAfter calls p b) × ((d : Decision) → Stands pile calls p d → ⊥)
 IsRight pile calls p (Chosen x) = IsDecidedAs pile calls p (decision.Chosen x)
 IsRight pile calls p (Impossible n) = IsDecidedAs pile calls p (decision.Impossible n)
 
@@ -46,20 +50,25 @@ IsDecided pile got b (Impossible n) = NonePasses pile got b
 abbrev pub IsDecidedByDesign : (Beam → Cage → ℕ) → List Call → ℕ → Shown → Type 0
 IsDecidedByDesign pile (Design q ∷ calls) p shown =
     q ≡ p → why_after calls (Design q) ≡ None
-    → (b : Beam) × (IsBeamAfter (Design q ∷ calls) p b × IsDecided pile (in_after (Design q ∷ calls)) b shown)
+    → (b : Beam)
+    × (IsBeamAfter (Design q ∷ calls) p b × IsDecided pile (in_after (Design q ∷ calls)) b shown)
 IsDecidedByDesign pile calls p shown = Unit {0}
 
 -- the law: what a place shows is right, and right after a design order it is decided
-pub record Lawful (pile : Beam → Cage → ℕ) (calls : List Call) (p : ℕ) (shown : Shown) : Type 0 where
+pub record Lawful (pile : Beam → Cage → ℕ) (calls : List Call) (p : ℕ)
+    (shown : Shown) : Type 0 where
   pub right : IsRight pile calls p shown
   pub decided : IsDecidedByDesign pile calls p shown
 
--- what a call that is not refused answers after these: a reading is of its place, and lawful; a design order is answered with
--- what its place then shows; the count is the number of designs that were not refused, up to the greatest
+-- what a call that is not refused answers after these: a reading is of its place, and lawful; a
+-- design order is answered with what its place then shows; the count is the number of designs that
+-- were not refused, up to the greatest
 abbrev pub Tells : (Beam → Cage → ℕ) → List Call → Call → Answer → Type 0
-Tells pile calls (Read p) (answer.Shows reading) = (reading.place ≡ p) × Lawful pile calls p reading.shown
+Tells pile calls (Read p) (answer.Shows reading) =
+    (reading.place ≡ p) × Lawful pile calls p reading.shown
 Tells pile calls (Read p) _ = ⊥
-Tells pile calls (Design p) (answer.Shows reading) = (reading.place ≡ p) × Lawful pile (Design p ∷ calls) p reading.shown
+Tells pile calls (Design p) (answer.Shows reading) =
+    (reading.place ≡ p) × Lawful pile (Design p ∷ calls) p reading.shown
 Tells pile calls (Design p) _ = ⊥
 Tells pile calls Count (answer.Designs n) = n ≡ min (designs_after calls) greatest_count
 Tells pile calls Count _ = ⊥
@@ -87,4 +96,5 @@ HasAnswer P (Some r) = P r
 -- every call of some exchanges, the newest first, is answered as the calls before it determine
 abbrev pub AllAnswered : (Beam → Cage → ℕ) → List Exchange → Type 0
 AllAnswered pile [] = Unit {0}
-AllAnswered pile (x ∷ earlier) = HasAnswer (Answers pile (map call_of earlier) x.call) x.answer × AllAnswered pile earlier
+AllAnswered pile (x ∷ earlier) =
+    HasAnswer (Answers pile (map call_of earlier) x.call) x.answer × AllAnswered pile earlier

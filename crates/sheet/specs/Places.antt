@@ -4,6 +4,7 @@ use Rattle.rebar.specs.declared.beam.Beam.{Beam}
 use Rattle.rebar.specs.declared.cage.Cage.{Cage}
 use Rattle.stock.specs.declared.kind.Kind.{Kind}
 use Rattle.stock.specs.declared.kind.Kind.TheVariants.{Main, Tie}
+use Rattle.search.specs.declared.decision.Choice.{Choice}
 use Rattle.search.specs.declared.decision.Decision.{Decision}
 use Rattle.search.specs.declared.decision.Decision.TheVariants.{Chosen, Impossible}
 use Rattle.sheet.specs.declared.entry.Entry.{Entry}
@@ -28,7 +29,8 @@ abbrev pub uses : Kind → ℕ → Cage → Bool
 uses Main mark c = c.bottom.mark == mark || c.top.mark == mark
 uses Tie mark c = c.ties.mark == mark
 
--- a mark that comes in makes every decision doubtful; one that goes out the impossible ones and the chosen ones that use it
+-- a mark that comes in makes every decision doubtful; one that goes out the impossible ones and the
+-- chosen ones that use it
 abbrev pub doubtful : Kind → ℕ → Bool → Decision → Bool
 doubtful kind mark is-in (Chosen x) = is-in || uses kind mark x.cage
 doubtful kind mark is-in (Impossible n) = true
@@ -57,3 +59,10 @@ shown_by (Some (Impossible n)) = shown.Impossible n
 abbrev pub shown_of : Option Entry → Shown
 shown_of None = shown.Empty
 shown_of (Some e) = shown_by e.decision
+
+-- the cage that is shown, none where the place is empty, open or impossible
+abbrev pub choice_of : Shown → Option Choice
+choice_of shown.Empty = None
+choice_of shown.Open = None
+choice_of (shown.Chosen x) = Some x
+choice_of (shown.Impossible n) = None

@@ -22,8 +22,16 @@ with_place t p x = record { places = slice_set t.places p x; stock = t.stock; co
 abbrev pub restocked : Kind → ℕ → Bool → Table → Table
 restocked kind mark is-in t =
     cond (beq (has t.stock kind mark) is-in) t
-    (record { places = map (place_reopened kind mark is-in) t.places; stock = with_mark t.stock kind mark is-in; count = t.count })
+    (record {
+      places = map (place_reopened kind mark is-in) t.places;
+      stock = with_mark t.stock kind mark is-in;
+      count = t.count;
+    })
 
 -- a decision put at the place of its beam, and counted; the count stays at its greatest number
 abbrev pub settled : ℕ → Beam → Decision → Table → Table
-settled p b d t = record { places = slice_set t.places p (Some (decided b d)); stock = t.stock; count = min (t.count + 1) greatest_count }
+settled p b d t = record {
+  places = slice_set t.places p (Some (decided b d));
+  stock = t.stock;
+  count = min (t.count + 1) greatest_count;
+}

@@ -1,8 +1,9 @@
 use crate::reading::Reading;
 use crate::refusal::Refusal;
 
-// A call of a sheet with its arguments, which may be any numbers and any bytes. Opening a sheet is none: every list of
-// calls begins on a sheet just opened.
+/// A call of a sheet with its arguments, which may be any numbers and any bytes. Opening a sheet is
+/// none: every list of calls begins on a sheet just opened. `Sheet`'s method of the same name says
+/// what each does.
 #[derive(Clone, Copy)]
 pub enum Call<'a> {
     Enter { place: u8, card: &'a [u8] },
@@ -14,15 +15,18 @@ pub enum Call<'a> {
     Count,
 }
 
-// What a call that is not refused answers.
+/// What a call that is not refused answers.
 #[derive(Clone, Copy)]
 pub enum Answer {
+    /// To a call that only changes the sheet.
     Done,
-    Shows(Reading), // to a read, and to a design order what its place then shows
-    Designs(u32), // to a count
+    /// To a read, and to a design order what its place then shows.
+    Shows(Reading),
+    /// To a count.
+    Designs(u32),
 }
 
-// A call with what it was answered, nothing before it is made.
+/// A call with what it was answered, nothing before it is made.
 #[derive(Clone, Copy)]
 pub struct Exchange<'a> {
     pub call: Call<'a>,

@@ -5,8 +5,8 @@ use crate::change::Change;
 use rebar::beam::Beam;
 use search::decision::Decision;
 
-// A beam on the sheet with its decision. It is open until it is decided, and open again when its decision may no
-// longer be right.
+// A beam on the sheet with its decision. It is open until it is decided, and open again when its
+// decision may no longer be right.
 #[derive(Clone, Copy)]
 pub(crate) struct Entry {
     pub(crate) beam: Beam,
@@ -26,7 +26,8 @@ impl Entry {
 
     // The entry after a mark came in or went out.
     pub(crate) fn reopened(&self, change: &Change) -> Entry
-        ensures { result ≡ reopened change.now.item.kind change.now.item.mark change.now.is_in self.now }
+        ensures { result
+            ≡ reopened change.now.item.kind change.now.item.mark change.now.is_in self.now }
     {
         match &self.decision {
             Some(Decision::Chosen(choice)) if !change.is_in && !change.touches(&choice.cage) =>

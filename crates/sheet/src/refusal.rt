@@ -4,15 +4,21 @@ ghost use Rattle.sheet.specs.Refusals.{refusal_number, byte_place};
 
 use card::fault::Fault;
 
-// Why a call is refused.
+/// Why a call is refused. Each is reported by a number (`u8::from`).
 #[derive(Clone, Copy, Debug, PartialEq, Eq)]
 pub enum Refusal {
+    /// 1: the number is above that of the last place.
     NoSuchPlace,
+    /// 2: the place holds a beam.
     PlaceTaken,
+    /// 3: the place holds no beam.
     PlaceEmpty,
+    /// The number of the card's fault.
     Card(Fault),
-    NoSuchMark, // the yard knows no such kind or mark
-    NothingInStock, // no main mark or no tie mark is in
+    /// 9: the yard knows no such kind or mark.
+    NoSuchMark,
+    /// 10: no main mark or no tie mark is in.
+    NothingInStock,
 }
 
 // The refusal of a call whose card has a fault.
@@ -41,7 +47,7 @@ impl From<Refusal> for u8 {
 }
 
 impl Refusal {
-    // The byte place of a card's fault; 0 for every other refusal.
+    /// The byte place of a card's fault; 0 for every other refusal.
     pub fn byte_place(self) -> usize
         ensures place_of_the_fault { result ≡ byte_place self }
     {

@@ -1,11 +1,11 @@
 ghost use Rattle.std.specs.Prelude.{◌≡◌, map};
-ghost use Rattle.sheet.specs.Calls.{TakesOrRefuses};
+ghost use Rattle.sheet.specs.Calls.{PutsCardOrRefuses};
 ghost use Rattle.sheet.specs.Places.{place_reopened};
 ghost use Rattle.sheet.specs.Table.{place_at, with_place, restocked, settled};
 
 use crate::change::Change;
 use crate::entry::Entry;
-use crate::place::Place;
+use crate::place::{PLACES, Place};
 use crate::refusal::Refusal;
 use card::reader::read_card;
 use rebar::beam::Beam;
@@ -15,21 +15,23 @@ use stock::stock::Stock;
 // The places of a sheet, the marks in stock, and how many designs were made.
 #[derive(Drop)]
 pub(crate) struct Table {
-    pub(crate) places: [Option<Entry>; 64],
+    pub(crate) places: [Option<Entry>; PLACES as usize],
     pub(crate) stock: Stock,
     pub(crate) count: u32,
 }
 
 // What a place holds after a mark came in or went out.
 fn place_reopened(held: Option<Entry>, change: &Change) -> Option<Entry>
-    ensures { result ≡ place_reopened change.now.item.kind change.now.item.mark change.now.is_in held }
+    ensures { result
+        ≡ place_reopened change.now.item.kind change.now.item.mark change.now.is_in held }
 {
     held.map(|entry| entry.reopened(change))
 }
 
 // Reopens every beam whose decision may no longer be right.
-fn reopen(places: &mut [Option<Entry>; 64], change: &Change)
-    ensures { places.new ≡ map (place_reopened change.now.item.kind change.now.item.mark change.now.is_in) places.old }
+fn reopen(places: &mut [Option<Entry>; PLACES as usize], change: &Change)
+    ensures { places.new ≡ map
+        (place_reopened change.now.item.kind change.now.item.mark change.now.is_in) places.old }
 {
     for place in places.iter_mut() {
         *place = place_reopened(*place, change);
@@ -51,9 +53,9 @@ impl Table {
         self.places[place.number as usize] = held;
     }
 
-    // Puts the beam of a card at a place, open, where the card has no fault.
-    pub(crate) fn take(&mut self, place: Place, card: &[u8]) -> Result<(), Refusal>
-        ensures { TakesOrRefuses place.number card.now self.old result self.new }
+    // Puts the beam of a card at a place, open; nothing changes where the card has a fault.
+    pub(crate) fn put_card(&mut self, place: Place, card: &[u8]) -> Result<(), Refusal>
+        ensures { PutsCardOrRefuses place.number card.now self.old result self.new }
     {
         let beam = read_card(card)?;
         self.put(place, Some(Entry::open(beam)));
@@ -62,7 +64,8 @@ impl Table {
 
     // Sets a mark in or out.
     pub(crate) fn restock(&mut self, change: &Change)
-        ensures { self.new ≡ restocked change.now.item.kind change.now.item.mark change.now.is_in self.old }
+        ensures { self.new ≡ restocked
+            change.now.item.kind change.now.item.mark change.now.is_in self.old }
     {
         if self.stock.holds(&change.item) == change.is_in {
             return;

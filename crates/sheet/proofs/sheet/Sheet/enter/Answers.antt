@@ -1,8 +1,8 @@
-use Rattle.std.proofs.Common.{rules, arith, None, Some, Ok}
+use Rattle.std.proofs.Common.{rules, None, Some, Ok}
 use Rattle.sheet.specs.declared.call.Call.TheVariants as call
 use Rattle.sheet.specs.declared.refusal.Refusal.TheVariants.{PlaceTaken}
 use Rattle.sheet.proofs.Runs.{grows}
-use Rattle.sheet.proofs.Takes.{entered}
+use Rattle.sheet.proofs.CardsPut.{entered}
 use Rattle.sheet.proofs.sheet.Sheet.enter.Goals as goal
 
 pub returns-then-is_some-clause-history_grows_by_this_call : goal.returns-then-is_some-clause-history_grows_by_this_call
@@ -12,9 +12,9 @@ returns-then-is_some-clause-history_grows_by_this_call g c =
 pub returns-clause-beam_open_or_nothing_changed : goal.returns-clause-beam_open_or_nothing_changed
 returns-clause-beam_open_or_nothing_changed g c =
     rw c.in_ok-place.ensures at
-    (entered (g.P.Book.answer c.args.self.now.pile) c.args.self.now.table c.take.new.self c.in_ok-place.place.number c.args.card (Ok c.in_ok-take.field-0)
-    (omega (arith, c.in_ok-place.place.placed)) (search rules) c.in_ok-take.ensures)
+    (entered (g.P.Book.answer c.args.self.now.pile) c.args.self.now.table c.put_card.new.self c.in_ok-place.place.number c.args.card (Ok c.in_ok-put_card.field-0)
+    c.in_ok-place.place.on_the_sheet (search rules) c.in_ok-put_card.ensures)
 
 pub returns-clause-history_grows_by_this_call : goal.returns-clause-history_grows_by_this_call
 returns-clause-history_grows_by_this_call g c =
-    grows (g.P.Book.answer c.args.self.now.pile) c.args.self.now.table (call.Enter c.args.place c.args.card) None c.take.new.self (returns-clause-beam_open_or_nothing_changed g c)
+    grows (g.P.Book.answer c.args.self.now.pile) c.args.self.now.table (call.Enter c.args.place c.args.card) None c.put_card.new.self (returns-clause-beam_open_or_nothing_changed g c)
