@@ -1,5 +1,5 @@
 -- Texts put on a page one after the other stand there as one.
-use Rattle.std.proofs.Common.{◌≡◌, ℕ, ◌+◌, ◌≤◌, cond, List, ◌++◌, length, drop, nat_lt, Some, None, sym, ap, ◌∙◌, arith, length-append, length-drop, append_assoc}
+use Rattle.std.proofs.Common.{◌≡◌, ℕ, ◌+◌, cond, List, ◌++◌, length, nat_lt, Some, None, sym, ap, ◌∙◌, arith, length-append}
 use Rattle.bill.proofs.Pages.{has_room, put_more, length_put}
 use Rattle.bill.specs.Text.{put}
 use Rattle.bill.specs.Steps.{short, Puts}
@@ -21,7 +21,7 @@ pub at_first : (page page' a : List ℕ) (w : ℕ) → short page 0 a ≡ None �
 at_first page page' a w h p = record { put = p.0; long = omega (arith, p.1); room = h }
 
 module _ (page page' a b : List ℕ) (w : ℕ) (at : At page page' a w) where
-  same : short page' w b ≡ short page 0 (a ++ b)
+  pub same : short page' w b ≡ short page 0 (a ++ b)
   same = rw (at.put, at.long) (short_more page a b at.room)
 
   pub at_more : (page'' : List ℕ) (v : ℕ) → short page' w b ≡ None → Puts page' w b v page'' → At page page'' (a ++ b) v
