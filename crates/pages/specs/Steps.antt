@@ -65,7 +65,7 @@ written_of bill.None = 0
 written_of (bill.Begun b) = b.written
 written_of (bill.Totalled t) = t.written
 
--- the bytes of a bill of these lines: with the total where it has one, and none where there is no bill
+-- the bytes of a bill of these lines, with its total where it has one; none where there is no bill
 abbrev pub text_of : List (ℕ × Choice) → Bill → List ℕ
 text_of lines bill.None = []
 text_of lines (bill.Begun b) = head_text ++ lines_text lines
@@ -78,7 +78,8 @@ Counts lines (bill.Begun b) = (b.lines ≡ length lines) × (b.steel ≡ steel_o
 Counts lines (bill.Totalled t) = Unit {0}
 
 -- a bill of these lines was put at the front of a page, whose other bytes are as they were before
-pub record Stands (lines : List (ℕ × Choice)) (page : List ℕ) (b : Bill) (page' : List ℕ) : Type 0 where
+pub record Stands (lines : List (ℕ × Choice)) (page : List ℕ) (b : Bill) (page' : List ℕ)
+    : Type 0 where
   pub put : page' ≡ put page 0 (text_of lines b)
   pub written : written_of b ≡ length (text_of lines b)
   pub room : written_of b ≤ length page

@@ -17,7 +17,7 @@ abbrev pub lines_of : ℕ → Reading → List (ℕ × Choice)
 lines_of zero rd = []
 lines_of (suc n) rd = lines_of n rd ++ line_at rd.place rd.shown
 
--- of a line given n times a bill has all n, or refuses one more; there is no bill where its head has no room
+-- a bill has all n lines, or refuses one more; there is none where its head has no room
 abbrev pub HasMost : ℕ → ℕ → Reading → List ℕ → Bill → List ℕ → Type 0
 HasMost count n rd page bill.None page' = (count ≡ 0) × LacksHead page
 HasMost count n rd page (bill.Begun b) page' = (count ≡ n) ⊎ Refuses b page' rd
@@ -54,13 +54,13 @@ Steps Total case n page s lines page' =
     (λ count b mid. (lines ≡ lines_of count case.chosen)
     × OnFront (λ front. AddsTotal b front s) n mid page')
 
--- the step of a case, on the first bytes of a page, as many as it asks for or there are; then its bill stands at the front
+-- the step of a case, on as many first bytes of a page as it asks for or there are, and its bill
 pub record Tries (case : Case) (page : List ℕ) (s : Stepped) (page' : List ℕ) : Type 0 where
   pub lines : List (ℕ × Choice)
   pub step : Steps case.step case (min case.page (length page)) page s lines page'
   pub bill : Stands lines page s.bill page'
 
--- a case was tried on a page: its step was made, and then the total on the whole page, where the bill then stands
+-- a case was tried on a page: its step was made, then the total, and the bill stands there
 pub record Made (case : Case) (page : List ℕ) (tried : Tried) (page' : List ℕ) : Type 0 where
   pub step : Stepped
   pub mid : List ℕ

@@ -51,19 +51,21 @@ BillsAs page next rd (Err e) page' next' = why_none page next rd.place rd.shown 
 -- the last of some texts, each of which goes on with the one before, that a page has room for
 abbrev pub roomy : List ℕ → List ℕ → List (List ℕ) → List ℕ
 roomy page text [] = text
-roomy page text (longer ∷ more) = option_map_or (λ e. text) (short page 0 longer) (roomy page longer more)
+roomy page text (longer ∷ more) =
+    option_map_or (λ e. text) (short page 0 longer) (roomy page longer more)
 
 -- a refusal leaves on a page what was written before it, and no other byte of the page has changed
 abbrev pub Stops : List ℕ → List (List ℕ) → List ℕ → Type 0
 Stops page texts page' = page' ≡ put page 0 (roomy page [] texts)
 
--- after a refusal each page has what was written before it: nothing on the next page where the first bill is not whole
+-- what a refusal leaves on both pages: none on the next one where the first bill is not whole
 abbrev pub Left : List ℕ → List ℕ → ℕ → Shown → List ℕ → List ℕ → Type 0
 Left page next place Empty page' next' = Stops page (head_text ∷ []) page' × (next' ≡ next)
 Left page next place Open page' next' = Stops page (head_text ∷ []) page' × (next' ≡ next)
 Left page next place (Chosen x) page' next' =
     Stops page (head_text ∷ torn_text place x ∷ whole_text place x ∷ []) page'
-    × MatchOption (short page 0 (whole_text place x)) (Stops next (head_text ∷ []) next') (λ e. next' ≡ next)
+    × MatchOption (short page 0 (whole_text place x))
+    (Stops next (head_text ∷ []) next') (λ e. next' ≡ next)
 Left page next place (Impossible n) page' next' = Stops page (head_text ∷ []) page' × (next' ≡ next)
 
 -- two pages are as long as what is written on them, or longer

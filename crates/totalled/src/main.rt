@@ -28,7 +28,8 @@ fn write_bills(
     reading: &Reading,
 ) -> Result<(usize, usize), Refusal>
     ensures two_bills_or_refused { BillsAs page.old next.old reading.now result page.new next.new }
-    ensures written_before_a_refusal { OnErr result (Left page.old next.old reading.now.place reading.now.shown page.new next.new) }
+    ensures written_before_a_refusal { OnErr result
+        (Left page.old next.old reading.now.place reading.now.shown page.new next.new) }
     ensures on_the_pages { IfOk result (λ written. AreOn written page.new next.new) }
 {
     let begun = Begun::begin(page)?;
