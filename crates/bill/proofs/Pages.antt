@@ -1,8 +1,9 @@
 -- What stands at the front of a page after each call of a bill.
-use Rattle.std.proofs.Common.{◌≡◌, ℕ, ◌+◌, ◌≤◌, Bool, true, false, cond, List, [], ◌∷◌, ◌++◌, length, take, drop, nat_lt, Some, None, Ok, Err, Result, sym, refl, ap, ◌∙◌, arith, length-append, append_assoc, append-nil, ltb-false}
-use Rattle.std.proofs.Math.Seq.{take-append_seam, take-append-add}
+use Rattle.std.proofs.Common.{◌≡◌, ℕ, ◌+◌, ◌≤◌, Bool, true, false, cond, List, [], ◌∷◌, ◌++◌, length, take, drop, nat_lt, Some, None, Ok, Err, Result, sym, refl, ap, ◌∙◌, arith, length-append, append_assoc, append-nil, length-drop, ltb-false}
+use Rattle.std.proofs.Math.Seq.{take-append_seam, take-append-add, drop-append-add}
 use Rattle.std.proofs.lemmas.Grind.{flat_map-append}
 use Rattle.std.proofs.lemmas.Option.{none-some}
+use Rattle.std.proofs.lemmas.List.{drop-drop}
 use Rattle.std.proofs.lemmas.List.Sums.{sum_by-append}
 use Rattle.search.specs.declared.decision.Choice.{Choice}
 use Rattle.sheet.specs.declared.reading.Reading.{Reading}
@@ -41,6 +42,18 @@ has_room page bs w h = go (nat_lt (length page) (w + length bs)) refl
     go true e = absurd (none-some PageShort (sym h ∙ ap (λ (v : Bool). cond v (Some PageShort) None) e))
     go false e = ltb-false (length page) (w + length bs) e
 
+-- texts put on a page one after the other stand there as one
+pub put_more : (page a b : List ℕ) → put (put page 0 a) (length a) b ≡ put page 0 (a ++ b)
+put_more page a b =
+    rw
+    (take-append_seam a (drop (0 + length a) page), drop-append-add a (drop (0 + length a) page) (length b), drop-drop (length b) (0 + length a) page, append_assoc a b (drop (0 + length (a ++ b)) page))
+    (ap (λ (n : ℕ). a ++ (b ++ drop n page)) (rw (length-append a b) (omega arith)))
+
+-- a page stays as long as it was
+pub length_put : (page a : List ℕ) → 0 + length a ≤ length page → length (put page 0 a) ≡ length page
+length_put page a h =
+    length-append a (drop (0 + length a) page) ∙ rw (length-drop (0 + length a) page) (omega (arith, h))
+
 pub begins : (page page' : List ℕ) (r : Result Begun Refusal) → BegunAs page r page' → BeginsBill r page'
 unfolding BeginsBill
 begins page page' (Ok b) h = record {
@@ -51,14 +64,18 @@ begins page page' (Ok b) h = record {
 }
 begins page page' (Err e) h = tt
 
+-- the text of one line more
+pub one_more : (lines : List (ℕ × Choice)) (place : ℕ) (x : Choice) → head_text ++ lines_text (lines ++ (place, x) ∷ []) ≡ (head_text ++ lines_text lines) ++ line_text place x
+one_more lines place x =
+    ap (λ (u : List ℕ). head_text ++ u) (flat_map-append (λ l. line_text l.0 l.1) lines ((place, x) ∷ []) ∙ ap (λ (u : List ℕ). lines_text lines ++ u) (append-nil (line_text place x)))
+    ∙ sym (append_assoc head_text (lines_text lines) (line_text place x))
+
 -- one line more of a chosen cage
 added : (page page' : List ℕ) (b b' : Begun) (place : ℕ) (x : Choice) → Added b page place (Chosen x) b' page' → (lines : List (ℕ × Choice)) → HasLines lines page b
     → HasLines (lines ++ (place, x) ∷ []) page' b'
 added page page' b b' place x a lines h =
     let front = head_text ++ lines_text lines in
-    let more : head_text ++ lines_text (lines ++ (place, x) ∷ []) ≡ front ++ line_text place x =
-    ap (λ (u : List ℕ). head_text ++ u) (flat_map-append (λ l. line_text l.0 l.1) lines ((place, x) ∷ []) ∙ ap (λ (u : List ℕ). lines_text lines ++ u) (append-nil (line_text place x)))
-    ∙ sym (append_assoc head_text (lines_text lines) (line_text place x)) in
+    let more = one_more lines place x in
     record {
       bytes = longer page page' front (line_text place x) b.written b'.written a.0 h.bytes h.written ∙ sym more;
       written = long page page' front (line_text place x) b.written b'.written a.0 h.bytes h.written ∙ ap length (sym more);

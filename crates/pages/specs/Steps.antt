@@ -1,12 +1,11 @@
 -- What a step makes of a bill and of the page that it is on.
-use Rattle.std.specs.Prelude.{◌≡◌, ℕ, List, [], ◌∷◌, ◌++◌, length, take, Some, None, Ok, Err, Option, Result}
+use Rattle.std.specs.Prelude.{◌≡◌, ℕ, ◌≤◌, List, [], ◌++◌, length, Some, None, Ok, Err, Option, Result}
 use Rattle.search.specs.declared.decision.Choice.{Choice}
 use Rattle.sheet.specs.declared.reading.Reading.{Reading}
-use Rattle.sheet.specs.declared.reading.Shown.{Shown}
-use Rattle.sheet.specs.declared.reading.Shown.TheVariants as shown
 use Rattle.bill.specs.Bill.{head_text}
 use Rattle.bill.specs.Steps.{short, why_line, BegunAs, LineAs, TotalAs}
-use Rattle.bill.specs.Whole.{bill_text, HasLines}
+use Rattle.bill.specs.Text.{put}
+use Rattle.bill.specs.Whole.{line_at, lines_text, steel_of, bill_text}
 use Rattle.bill.specs.declared.bill.Begun.{Begun}
 use Rattle.bill.specs.declared.bill.Refused.{Refused}
 use Rattle.bill.specs.declared.bill.Totalled.{Totalled}
@@ -39,8 +38,8 @@ after_total (Ok t) = taken (bill.Totalled t)
 after_total (Err e) = handed_back e
 
 -- a begin on a page
-abbrev pub Begins : List ℕ → Stepped → List ℕ → Type 0
-Begins page s page' = (r : Result Begun Refusal) × ((s ≡ after_begin r) × BegunAs page r page')
+abbrev pub AddsHead : List ℕ → Stepped → List ℕ → Type 0
+AddsHead page s page' = (r : Result Begun Refusal) × ((s ≡ after_begin r) × BegunAs page r page')
 
 -- nothing is done
 abbrev pub Skips : Bill → List ℕ → Stepped → List ℕ → Type 0
@@ -66,19 +65,25 @@ written_of bill.None = 0
 written_of (bill.Begun b) = b.written
 written_of (bill.Totalled t) = t.written
 
--- a bill of these lines is the first bytes of a page
-abbrev pub Stands : List (ℕ × Choice) → List ℕ → Bill → Type 0
-Stands lines page bill.None = Unit {0}
-Stands lines page (bill.Begun b) = HasLines lines page b
-Stands lines page (bill.Totalled t) =
-    (take t.written page ≡ bill_text lines) × (t.written ≡ length (bill_text lines))
+-- the bytes of a bill of these lines, with its total where it has one; none where there is no bill
+abbrev pub text_of : List (ℕ × Choice) → Bill → List ℕ
+text_of lines bill.None = []
+text_of lines (bill.Begun b) = head_text ++ lines_text lines
+text_of lines (bill.Totalled t) = bill_text lines
 
--- the line of a reading, none where its place is not chosen
-abbrev pub line_at : ℕ → Shown → List (ℕ × Choice)
-line_at place shown.Empty = []
-line_at place shown.Open = []
-line_at place (shown.Chosen x) = (place, x) ∷ []
-line_at place (shown.Impossible n) = []
+-- a bill that takes lines counts these and their steel
+abbrev pub Counts : List (ℕ × Choice) → Bill → Type 0
+Counts lines bill.None = Unit {0}
+Counts lines (bill.Begun b) = (b.lines ≡ length lines) × (b.steel ≡ steel_of lines)
+Counts lines (bill.Totalled t) = Unit {0}
+
+-- a bill of these lines was put at the front of a page, whose other bytes are as they were before
+pub record Stands (lines : List (ℕ × Choice)) (page : List ℕ) (b : Bill) (page' : List ℕ)
+    : Type 0 where
+  pub put : page' ≡ put page 0 (text_of lines b)
+  pub written : written_of b ≡ length (text_of lines b)
+  pub room : written_of b ≤ length page
+  pub numbers : Counts lines b
 
 -- the line that a step has added
 abbrev pub added : Bill → Reading → Option Refusal → List (ℕ × Choice)
@@ -90,20 +95,17 @@ added (bill.Totalled t) rd o = []
 -- the lines that a bill has stay its first, and more come after them
 abbrev pub Keeps : Bill → List ℕ → List (ℕ × Choice) → Bill → List ℕ → Type 0
 Keeps b page more b' page' =
-    (lines : List (ℕ × Choice)) → Stands lines page b → Stands (lines ++ more) page' b'
+    (lines : List (ℕ × Choice)) (start : List ℕ) → Stands lines start b page
+    → Stands (lines ++ more) start b' page'
 
 -- the line that a step has added comes after those that the bill has
 abbrev pub KeepsAndAdds : Bill → List ℕ → Reading → Stepped → List ℕ → Type 0
 KeepsAndAdds b page rd s page' = Keeps b page (added b rd s.refusal) s.bill page'
 
--- a begun bill refuses the line of a reading
-abbrev pub Refuses : Bill → List ℕ → Reading → Type 0
-Refuses bill.None page rd = Unit {0}
-Refuses (bill.Begun b) page rd = (e : Refusal) × (why_line b page rd.place rd.shown ≡ Some e)
-Refuses (bill.Totalled t) page rd = Unit {0}
+-- a page has no room for a bill's head
+abbrev pub LacksHead : List ℕ → Type 0
+LacksHead page = (e : Refusal) × (short page 0 head_text ≡ Some e)
 
--- a bill that may still take lines, or none on a page with no room for its head
-abbrev pub IsOpen : Bill → List ℕ → Type 0
-IsOpen bill.None page = (e : Refusal) × (short page 0 head_text ≡ Some e)
-IsOpen (bill.Begun b) page = Unit {0}
-IsOpen (bill.Totalled t) page = ⊥
+-- a begun bill refuses the line of a reading
+abbrev pub Refuses : Begun → List ℕ → Reading → Type 0
+Refuses b page rd = (e : Refusal) × (why_line b page rd.place rd.shown ≡ Some e)

@@ -1,79 +1,66 @@
 -- What a case that is tried leaves on its page.
-use Rattle.std.specs.Prelude.{◌≡◌, ◌⊎◌, ℕ, zero, suc, ◌≤◌, List, [], ◌++◌, length, min, take, drop, count_by, ◌==◌, Some, None, Option}
+use Rattle.std.specs.Prelude.{◌≡◌, ◌⊎◌, ℕ, zero, suc, ◌≤◌, List, [], ◌++◌, length, min, take, drop, count_by, ◌==◌}
 use Rattle.search.specs.declared.decision.Choice.{Choice}
 use Rattle.sheet.specs.declared.reading.Reading.{Reading}
-use Rattle.bill.specs.Bill.{head_text}
-use Rattle.bill.specs.Whole.{lines_text, bill_text}
-use Rattle.bill.specs.declared.refusal.Refusal.{Refusal}
+use Rattle.bill.specs.Whole.{line_at}
 use Rattle.pages.specs.declared.bills.Bill.{Bill}
+use Rattle.pages.specs.declared.bills.Bill.TheVariants as bill
 use Rattle.pages.specs.declared.bills.Stepped.{Stepped}
 use Rattle.pages.specs.declared.case.Case.{Case}
 use Rattle.pages.specs.declared.case.Step.{Step}
 use Rattle.pages.specs.declared.case.Step.TheVariants.{Begin, Line, Total}
 use Rattle.pages.specs.declared.tried.Tried.{Tried}
-use Rattle.pages.specs.Steps.{Begins, AddsLine, AddsTotal, written_of, Stands, Refuses, IsOpen, line_at}
+use Rattle.pages.specs.Steps.{AddsHead, AddsLine, AddsTotal, written_of, Stands, added, LacksHead, Refuses}
 
 -- the line of a reading, so many times
 abbrev pub lines_of : ℕ → Reading → List (ℕ × Choice)
 lines_of zero rd = []
 lines_of (suc n) rd = lines_of n rd ++ line_at rd.place rd.shown
 
--- a bill that was given a line n times has as many of them, or refuses one more
-pub record Filled (n : ℕ) (rd : Reading) (page : List ℕ) (b : Bill) : Type 0 where
+-- a bill has all n lines, or refuses one more; there is none where its head has no room
+abbrev pub HasMost : ℕ → ℕ → Reading → List ℕ → Bill → List ℕ → Type 0
+HasMost count n rd page bill.None page' = (count ≡ 0) × LacksHead page
+HasMost count n rd page (bill.Begun b) page' = (count ≡ n) ⊎ Refuses b page' rd
+HasMost count n rd page (bill.Totalled t) page' = ⊥
+
+-- a bill was begun on a page, and given a line n times
+pub record Filled (n : ℕ) (rd : Reading) (page : List ℕ) (b : Bill) (page' : List ℕ) : Type 0 where
   pub count : ℕ
   pub within : count ≤ n
-  pub lines : Stands (lines_of count rd) page b
-  pub untotalled : IsOpen b page
-  pub most : (count ≡ n) ⊎ Refuses b page rd
+  pub lines : Stands (lines_of count rd) page b page'
+  pub most : HasMost count n rd page b page'
 
 -- something is done to the first n bytes of a page, and the others stay as they are
 abbrev pub OnFront : (List ℕ → List ℕ → Type 0) → ℕ → List ℕ → List ℕ → Type 0
 OnFront Done n page page' =
     (front : List ℕ) × (Done (take n page) front × (page' ≡ front ++ drop n page))
 
--- something is done to a bill with the lines of a case, and to the page on which it stands
-abbrev pub AfterLines : Case → (Bill → List ℕ → Type 0) → Type 0
-AfterLines case Done =
-    (b : Bill) × ((page : List ℕ) × (Filled case.lines case.chosen page b × Done b page))
+-- something is done to a bill with the lines of a case, so many of them, and to its page
+abbrev pub AfterLines : Case → List ℕ → (ℕ → Bill → List ℕ → Type 0) → Type 0
+AfterLines case page Done =
+    (b : Bill) × ((mid : List ℕ)
+    × ((filled : Filled case.lines case.chosen page b mid) × Done filled.count b mid))
 
--- the step of a case, on the first n bytes of a page
-abbrev pub Steps : Step → Case → ℕ → List ℕ → Stepped → List ℕ → Type 0
-Steps Begin case n page s page' = OnFront (λ front. Begins front s) n page page'
-Steps Line case n page s page' =
-    AfterLines case (λ b mid. OnFront (λ front. AddsLine b front case.tried s) n mid page')
-Steps Total case n page s page' =
-    AfterLines case (λ b mid. OnFront (λ front. AddsTotal b front s) n mid page')
+-- the step of a case, on the first n bytes of a page, and the lines of the bill that it leaves
+abbrev pub Steps : Step → Case → ℕ → List ℕ → Stepped → List (ℕ × Choice) → List ℕ → Type 0
+Steps Begin case n page s lines page' =
+    (lines ≡ []) × OnFront (λ front. AddsHead front s) n page page'
+Steps Line case n page s lines page' =
+    AfterLines case page
+    (λ count b mid. (lines ≡ lines_of count case.chosen ++ added b case.tried s.refusal)
+    × OnFront (λ front. AddsLine b front case.tried s) n mid page')
+Steps Total case n page s lines page' =
+    AfterLines case page
+    (λ count b mid. (lines ≡ lines_of count case.chosen)
+    × OnFront (λ front. AddsTotal b front s) n mid page')
 
--- the step of a case, on the first bytes of a page, as many as it asks for or there are
-abbrev pub Tries : Case → List ℕ → Stepped → List ℕ → Type 0
-Tries case page s page' = Steps case.step case (min case.page (length page)) page s page'
+-- the step of a case, on as many first bytes of a page as it asks for or there are, and its bill
+pub record Tries (case : Case) (page : List ℕ) (s : Stepped) (page' : List ℕ) : Type 0 where
+  pub lines : List (ℕ × Choice)
+  pub step : Steps case.step case (min case.page (length page)) page s lines page'
+  pub bill : Stands lines page s.bill page'
 
--- the lines after a step that was refused so, or not, where `count` stood before it
-abbrev pub lines_after : Step → Case → ℕ → Option Refusal → List (ℕ × Choice)
-lines_after Begin case count o = []
-lines_after Line case count None =
-    lines_of count case.chosen ++ line_at case.tried.place case.tried.shown
-lines_after Line case count (Some e) = lines_of count case.chosen
-lines_after Total case count o = lines_of count case.chosen
-
--- a bill of the lines of a case is the first bytes of the page
-pub record Leaves (case : Case) (o : Option Refusal) (page : List ℕ) (b : Bill) : Type 0 where
-  pub count : ℕ
-  pub within : count ≤ case.lines
-  pub bill : Stands (lines_after case.step case count o) page b
-
--- no bill, a bill of these lines with no total, or one with its total
-abbrev pub IsText : List (ℕ × Choice) → List ℕ → Type 0
-IsText lines bytes =
-    (bytes ≡ []) ⊎ ((bytes ≡ head_text ++ lines_text lines) ⊎ (bytes ≡ bill_text lines))
-
--- the first bytes of the page, so many of them, are the bill of a case
-pub record Prints (case : Case) (o : Option Refusal) (page : List ℕ) (whole : ℕ) : Type 0 where
-  pub count : ℕ
-  pub within : count ≤ case.lines
-  pub text : IsText (lines_after case.step case count o) (take whole page)
-
--- a case was tried on a page: its step was made, and then the total on the whole page
+-- a case was tried on a page: its step was made, then the total, and the bill stands there
 pub record Made (case : Case) (page : List ℕ) (tried : Tried) (page' : List ℕ) : Type 0 where
   pub step : Stepped
   pub mid : List ℕ
@@ -84,3 +71,4 @@ pub record Made (case : Case) (page : List ℕ) (tried : Tried) (page' : List �
   pub end : Stepped
   pub ended : AddsTotal step.bill mid end page'
   pub whole : tried.whole ≡ written_of end.bill
+  pub bill : Stands stepped.lines page end.bill page'

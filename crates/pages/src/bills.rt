@@ -1,5 +1,5 @@
 ghost use Rattle.std.specs.Prelude.{◌≡◌, []};
-ghost use Rattle.pages.specs.Steps.{taken, handed_back, Begins, AddsLine, AddsTotal, written_of, Stands, Keeps, KeepsAndAdds};
+ghost use Rattle.pages.specs.Steps.{taken, handed_back, AddsHead, AddsLine, AddsTotal, written_of, Stands, Keeps, KeepsAndAdds};
 
 use bill::bill::{Begun, Refused, Totalled};
 use bill::refusal::Refusal;
@@ -50,9 +50,10 @@ fn handed_back(refused: Refused) -> Stepped
 }
 
 // A bill begun on the page.
+#[tactic(auto, using(crate::proofs::Steps::head_stands))]
 pub(crate) fn begun(page: &mut [u8]) -> Stepped
-    ensures begun_or_refused { Begins page.old result page.new }
-    ensures bill_of_no_line { Stands [] page.new result.bill }
+    ensures begun_or_refused { AddsHead page.old result page.new }
+    ensures bill_of_no_line { Stands [] page.old result.bill page.new }
 {
     match Begun::begin(page) {
         Ok(bill) => taken(Bill::Begun(bill)),
@@ -66,7 +67,7 @@ pub(crate) fn begun(page: &mut [u8]) -> Stepped
 // A line more, where the bill still takes lines.
 pub(crate) fn lined(bill: Bill, page: &mut [u8], reading: &Reading) -> Stepped
     ensures line_added_or_refused { AddsLine bill page.old reading.now result page.new }
-    ensures one_line_more { KeepsAndAdds bill page.old reading.now result page.new }
+    ensures lines_kept_and_one_more { KeepsAndAdds bill page.old reading.now result page.new }
 {
     match bill {
         Bill::Begun(begun) => match begun.line(page, reading) {
@@ -81,7 +82,7 @@ pub(crate) fn lined(bill: Bill, page: &mut [u8], reading: &Reading) -> Stepped
 // The total, where the bill has none yet.
 pub(crate) fn totalled(bill: Bill, page: &mut [u8]) -> Stepped
     ensures total_added_or_refused { AddsTotal bill page.old result page.new }
-    ensures same_lines { Keeps bill page.old [] result.bill page.new }
+    ensures lines_kept { Keeps bill page.old [] result.bill page.new }
 {
     match bill {
         Bill::Begun(begun) => match begun.total(page) {

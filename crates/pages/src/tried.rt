@@ -1,5 +1,5 @@
 ghost use Rattle.std.specs.Prelude.{◌≡◌, count_by, ◌==◌};
-ghost use Rattle.pages.specs.Tries.{Filled, Tries, Leaves, Made, Prints};
+ghost use Rattle.pages.specs.Tries.{Filled, Tries, Made};
 
 use crate::bills::{Bill, Stepped, begun, lined, totalled};
 use crate::case::{Case, Step};
@@ -24,10 +24,8 @@ fn unwritten(page: &[u8]) -> usize
 }
 
 // The step on the first bytes of the page, after the lines before it on the whole page.
-#[tactic(auto, using(crate::proofs::Tries::left_begin, crate::proofs::Tries::left_line))]
 fn stepped(case: &Case, page: &mut [u8]) -> Stepped
-    ensures the_step { Tries case.now page.old result page.new }
-    ensures bill_of_the_case { Leaves case.now result.refusal page.new result.bill }
+    ensures step_after_the_lines { Tries case.now page.old result page.new }
 {
     let length = case.page.min(page.len());
     match case.step {
@@ -46,7 +44,7 @@ fn stepped(case: &Case, page: &mut [u8]) -> Stepped
 // A bill with the lines before the step.
 #[tactic(auto, using(crate::proofs::Tries::begun_filled, crate::proofs::Tries::filled_more))]
 fn filled(case: &Case, page: &mut [u8]) -> Bill
-    ensures { Filled case.now.lines case.now.chosen page.new result }
+    ensures { Filled case.now.lines case.now.chosen page.old result page.new }
 {
     let mut bill = begun(page).left();
     for _ in 0..case.lines {
@@ -59,7 +57,6 @@ impl Tried {
     // Tries the step, and then totals the bill on the whole page.
     pub(crate) fn of(case: &Case, page: &mut [u8]) -> Tried
         ensures step_and_total { Made case.now page.old result page.new }
-        ensures bill_of_the_case { Prints case.now result.refusal page.new result.whole }
     {
         let Stepped { bill, refusal } = stepped(case, page);
         let written = bill.written();

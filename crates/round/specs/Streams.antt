@@ -14,8 +14,8 @@ abbrev pub told_length : List ℕ → ℕ
 told_length bytes = slice_index bytes 0 * 256 + slice_index bytes 1
 
 -- some bytes begin with a stream, after its length, and go on with others
-abbrev pub Begins : List ℕ → List ℕ → List ℕ → Type 0
-Begins bytes stream after = bytes ≡ two_bytes (length stream) ++ (stream ++ after)
+abbrev pub StartsWith : List ℕ → List ℕ → List ℕ → Type 0
+StartsWith bytes stream after = bytes ≡ two_bytes (length stream) ++ (stream ++ after)
 
 -- some bytes end before the stream that they begin with
 abbrev pub IsCut : List ℕ → Type 0

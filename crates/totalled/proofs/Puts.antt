@@ -1,21 +1,9 @@
 -- Texts put on a page one after the other stand there as one.
-use Rattle.std.proofs.Common.{◌≡◌, ℕ, ◌+◌, ◌≤◌, cond, List, ◌++◌, length, drop, nat_lt, Some, None, sym, ap, ◌∙◌, arith, length-append, length-drop, append_assoc}
-use Rattle.std.proofs.Math.Seq.{take-append_seam, drop-append-add}
-use Rattle.std.proofs.lemmas.List.{drop-drop}
-use Rattle.bill.proofs.Pages.{has_room}
+use Rattle.std.proofs.Common.{◌≡◌, ℕ, ◌+◌, cond, List, ◌++◌, length, nat_lt, Some, None, sym, ap, ◌∙◌, arith, length-append}
+use Rattle.bill.proofs.Pages.{has_room, put_more, length_put}
 use Rattle.bill.specs.Text.{put}
 use Rattle.bill.specs.Steps.{short, Puts}
 use Rattle.bill.specs.declared.refusal.Refusal.TheVariants.{PageShort}
-
-put_more : (page a b : List ℕ) → put (put page 0 a) (length a) b ≡ put page 0 (a ++ b)
-put_more page a b =
-    rw
-    (take-append_seam a (drop (0 + length a) page), drop-append-add a (drop (0 + length a) page) (length b), drop-drop (length b) (0 + length a) page, append_assoc a b (drop (0 + length (a ++ b)) page))
-    (ap (λ (n : ℕ). a ++ (b ++ drop n page)) (rw (length-append a b) (omega arith)))
-
-length_put : (page a : List ℕ) → 0 + length a ≤ length page → length (put page 0 a) ≡ length page
-length_put page a h =
-    length-append a (drop (0 + length a) page) ∙ rw (length-drop (0 + length a) page) (omega (arith, h))
 
 -- more text has room on the page where all of it has
 short_more : (page a b : List ℕ) → short page 0 a ≡ None → short (put page 0 a) (length a) b ≡ short page 0 (a ++ b)
@@ -33,7 +21,7 @@ pub at_first : (page page' a : List ℕ) (w : ℕ) → short page 0 a ≡ None �
 at_first page page' a w h p = record { put = p.0; long = omega (arith, p.1); room = h }
 
 module _ (page page' a b : List ℕ) (w : ℕ) (at : At page page' a w) where
-  same : short page' w b ≡ short page 0 (a ++ b)
+  pub same : short page' w b ≡ short page 0 (a ++ b)
   same = rw (at.put, at.long) (short_more page a b at.room)
 
   pub at_more : (page'' : List ℕ) (v : ℕ) → short page' w b ≡ None → Puts page' w b v page'' → At page page'' (a ++ b) v

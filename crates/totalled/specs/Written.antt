@@ -1,12 +1,13 @@
 -- What the program writes on its two pages.
-use Rattle.std.specs.Prelude.{◌≡◌, ℕ, ◌≤◌, length, List, [], ◌∷◌, ◌++◌, Some, None, Ok, Err, Option, Result}
-use Rattle.std.specs.Option.{option_or}
+use Rattle.std.specs.Prelude.{◌≡◌, ℕ, ◌≤◌, length, List, [], ◌∷◌, ◌++◌, Some, None, Ok, Err, Option, Result, MatchOption}
+use Rattle.std.specs.Option.{option_or, option_map_or}
 use Rattle.search.specs.declared.decision.Choice.{Choice}
 use Rattle.sheet.specs.declared.reading.Reading.{Reading}
 use Rattle.sheet.specs.declared.reading.Shown.{Shown}
 use Rattle.sheet.specs.declared.reading.Shown.TheVariants.{Empty, Open, Chosen, Impossible}
 use Rattle.bill.specs.Bill.{head_text}
 use Rattle.bill.specs.Steps.{short, Puts}
+use Rattle.bill.specs.Text.{put}
 use Rattle.bill.specs.Whole.{lines_text, bill_text}
 use Rattle.bill.specs.declared.refusal.Refusal.{Refusal}
 use Rattle.bill.specs.declared.refusal.Refusal.TheVariants.{NotChosen}
@@ -46,6 +47,26 @@ BillsAs page next rd (Ok written) page' next' =
     (why_none page next rd.place rd.shown ≡ None)
     × Put page next rd.place rd.shown written page' next'
 BillsAs page next rd (Err e) page' next' = why_none page next rd.place rd.shown ≡ Some e
+
+-- the last of some texts, each of which goes on with the one before, that a page has room for
+abbrev pub roomy : List ℕ → List ℕ → List (List ℕ) → List ℕ
+roomy page text [] = text
+roomy page text (longer ∷ more) =
+    option_map_or (λ e. text) (short page 0 longer) (roomy page longer more)
+
+-- a refusal leaves on a page what was written before it, and no other byte of the page has changed
+abbrev pub Stops : List ℕ → List (List ℕ) → List ℕ → Type 0
+Stops page texts page' = page' ≡ put page 0 (roomy page [] texts)
+
+-- what a refusal leaves on both pages: none on the next one where the first bill is not whole
+abbrev pub Left : List ℕ → List ℕ → ℕ → Shown → List ℕ → List ℕ → Type 0
+Left page next place Empty page' next' = Stops page (head_text ∷ []) page' × (next' ≡ next)
+Left page next place Open page' next' = Stops page (head_text ∷ []) page' × (next' ≡ next)
+Left page next place (Chosen x) page' next' =
+    Stops page (head_text ∷ torn_text place x ∷ whole_text place x ∷ []) page'
+    × MatchOption (short page 0 (whole_text place x))
+    (Stops next (head_text ∷ []) next') (λ e. next' ≡ next)
+Left page next place (Impossible n) page' next' = Stops page (head_text ∷ []) page' × (next' ≡ next)
 
 -- two pages are as long as what is written on them, or longer
 abbrev pub AreOn : ℕ × ℕ → List ℕ → List ℕ → Type 0

@@ -1,8 +1,8 @@
 // Makes a bill of one line with its total, begins another with the next line, and prints both.
 #![tactic(auto)]
 
-ghost use Rattle.std.specs.Prelude.{◌≡◌, IfOk};
-ghost use Rattle.totalled.specs.Written.{BillsAs, AreOn};
+ghost use Rattle.std.specs.Prelude.{◌≡◌, IfOk, OnErr};
+ghost use Rattle.totalled.specs.Written.{BillsAs, Left, AreOn};
 
 use bill::bill::{Begun, Refused};
 use bill::refusal::Refusal;
@@ -28,6 +28,8 @@ fn write_bills(
     reading: &Reading,
 ) -> Result<(usize, usize), Refusal>
     ensures two_bills_or_refused { BillsAs page.old next.old reading.now result page.new next.new }
+    ensures written_before_a_refusal { OnErr result
+        (Left page.old next.old reading.now.place reading.now.shown page.new next.new) }
     ensures on_the_pages { IfOk result (λ written. AreOn written page.new next.new) }
 {
     let begun = Begun::begin(page)?;

@@ -6,9 +6,9 @@ pub returns-in-Ok-clause-line_added_or_refused : goal.returns-in-Ok-clause-line_
 returns-in-Ok-clause-line_added_or_refused c =
     rw c.in-Begun.is (Ok c.in-Ok.longer, (c.taken.ensures, c.in-Ok.ensures.line_on_the_page_or_handed_back))
 
-pub returns-in-Ok-clause-one_line_more : goal.returns-in-Ok-clause-one_line_more
-returns-in-Ok-clause-one_line_more c =
-    keeps_line c.args.page.now c.line.new.page c.line.auto.page c.args.bill c.taken.result c.args.reading.now (returns-in-Ok-clause-line_added_or_refused c)
+pub returns-in-Ok-clause-lines_kept_and_one_more : goal.returns-in-Ok-clause-lines_kept_and_one_more
+returns-in-Ok-clause-lines_kept_and_one_more c =
+    keeps_line c.args.page.now c.line.new.page c.args.bill c.taken.result c.args.reading.now (returns-in-Ok-clause-line_added_or_refused c)
 
 pub returns-in-Err-clause-line_added_or_refused : goal.returns-in-Err-clause-line_added_or_refused
 returns-in-Err-clause-line_added_or_refused c =
