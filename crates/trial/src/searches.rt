@@ -3,7 +3,7 @@ ghost use Rattle.std.specs.Ordering.{on};
 ghost use Rattle.std.specs.Cmp.Lexicographic.{pointwise};
 ghost use Rattle.rebar.specs.Order.{numbers};
 
-use crate::reference::beam;
+use crate::reference::{CARD, beam};
 use books::book::Book;
 use books::general::General;
 use books::pile::STANDARD_PILE;
@@ -11,12 +11,16 @@ use rebar::beam::Beam;
 use rebar::cage::{Bars, Cage, Ties};
 use search::decision::Decision;
 use search::lightest::lightest_cage;
+use sheet::reading::Shown;
+use sheet::refusal::Refusal;
+use sheet::sheet::Sheet;
 use std::process::Abort;
 use std::test::Fail;
 use stock::stock::Stock;
 use stock::stock_mark::StockMark;
 
 // A book that answers every cage alike.
+#[derive(Drop)]
 struct Always(u8);
 
 impl Book for Always {
@@ -120,6 +124,24 @@ fn heavier_ties(rt: HostRuntime) -> Result<(), Fail> {
     assert_eq!(rt; choice.cage.numbers(), [5, 3, 5, 4, 4, 100]);
     assert_eq!(rt; choice.steel, 16_214_300);
     Ok(())
+}
+
+// What place 7 of a sheet shows after a design of the reference beam there.
+fn designed(sheet: &mut Sheet<&Always>) -> Result<Shown, Refusal> {
+    sheet.stock(0, 5, true)?;
+    sheet.stock(1, 3, true)?;
+    sheet.enter(7, &CARD)?;
+    sheet.design(7)?;
+    Ok(sheet.read(7)?.shown)
+}
+
+#[test]
+fn one_book_on_two_sheets(rt: HostRuntime) {
+    let book = Always(7);
+    let mut first = Sheet::open(&book);
+    let mut second = Sheet::open(&book);
+    assert!(rt; matches!(designed(&mut first), Ok(Shown::Impossible(7))));
+    assert!(rt; matches!(designed(&mut second), Ok(Shown::Impossible(7))));
 }
 
 #[test]
