@@ -66,6 +66,7 @@ pub struct Ties {
 impl Ties {
     ghost use Rattle.rebar.specs.declared.cage.Ties.{Ties};
     ghost use Rattle.rebar.specs.Marks.{bar_diameter, bar_area};
+    ghost use Rattle.rebar.specs.Steel.{hook};
 
     /// The ties of this mark and spacing, where there are such.
     pub fn new(mark: u8, spacing: u16) -> Option<Ties>
@@ -97,6 +98,16 @@ impl Ties {
     {
         let leg = size_of(self.mark);
         leg.area
+    }
+
+    // The length of a hook at an end of a tie, in mm.
+    #[tactic(auto, unfolding(crate::specs::Steel::hook))]
+    pub(crate) fn hook_length(&self) -> u32
+        ensures length_of_the_hook { result ≡ hook self.now }
+        ensures at_most_the_longest_hook { result ≤ 96 }
+    {
+        let hook: u32 = 75;
+        hook.max((6 * self.diameter()).div_ceil(10))
     }
 }
 

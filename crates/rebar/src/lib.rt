@@ -7,7 +7,6 @@ mod marks;
 pub mod materials;
 pub mod member;
 pub mod section;
-mod steel;
 
 pub use beam::Beam;
 pub use cage::{Bars, Cage, Ties};
