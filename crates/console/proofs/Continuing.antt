@@ -7,7 +7,7 @@ use Rattle.rebar.specs.declared.cage.Cage.{Cage}
 use Rattle.sheet.specs.Law.{call_of}
 use Rattle.sheet.specs.declared.table.Table.{Table}
 use Rattle.console.specs.Streams.{Led, LedTo, text_due, GoesOn, EndsPrinted, EndsLightest, EndsAlone}
-use Rattle.console.specs.Feeding.{Continues, ReadsOn, ReadsAll, ReadsNoFurther}
+use Rattle.console.specs.Feeding.{Continues, ReadsOn, ReadsAll}
 use Rattle.console.specs.Sinks.{PrintsKnown}
 use Rattle.console.specs.declared.console.Console.{Console}
 use Rattle.console.proofs.Orders.{leaves_more, unknown, unknown_more}

@@ -15,7 +15,6 @@ use Rattle.sheet.proofs.Runs.{lawful}
 use Rattle.bill.specs.Whole.{bill_text}
 use Rattle.console.specs.Bills.{lines_below}
 use Rattle.console.specs.Lines.{lines_text}
-use Rattle.console.specs.Orders.{begins_known}
 use Rattle.console.specs.Printed.{stop_text, IsPrinted}
 use Rattle.console.specs.Streams.{Holds, Led, EndsPrinted, EndsLightest, EndsAlone}
 use Rattle.console.specs.declared.console.Console.{Console}

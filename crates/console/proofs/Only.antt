@@ -17,7 +17,7 @@ use Rattle.sheet.specs.declared.reading.Shown.{Shown}
 use Rattle.sheet.specs.declared.refusal.Refusal.{Refusal}
 use Rattle.sheet.specs.declared.table.Table.{Table}
 use Rattle.sheet.specs.Calls.{refusal}
-use Rattle.sheet.specs.Law.{call_of, calls_of, Tells, Answers, HasAnswer, AllAnswered, Lawful}
+use Rattle.sheet.specs.Law.{call_of, calls_of, Tells, Answers, HasAnswer, AllAnswered}
 use Rattle.sheet.specs.Places.{shown_of}
 use Rattle.sheet.specs.Table.{place_at}
 use Rattle.sheet.specs.Size.{place_count}

@@ -5,7 +5,7 @@ use Rattle.rebar.specs.declared.beam.Beam.{Beam}
 use Rattle.rebar.specs.declared.cage.Cage.{Cage}
 use Rattle.console.specs.Orders.{IsStopped}
 use Rattle.console.specs.Streams.{LedTo}
-use Rattle.console.specs.Sinks.{LeavesUnread, ReadsUntilStop}
+use Rattle.console.specs.Sinks.{ReadsUntilStop}
 use Rattle.console.specs.Feeding.{Continues, ReadsOn, ReadsNoFurther}
 use Rattle.console.specs.declared.console.Console.{Console}
 use Rattle.console.proofs.Stopping.{tells}

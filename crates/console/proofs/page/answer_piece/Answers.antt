@@ -1,4 +1,4 @@
-use Rattle.std.proofs.Common.{rules, ◌≡◌, List, ℕ, [], ◌∷◌, take, slice_index_or, Some, refl, sym, ◌∙◌, subst, arith}
+use Rattle.std.proofs.Common.{rules, List, ℕ, [], ◌∷◌, take, slice_index_or, Some, refl, sym, ◌∙◌, subst, arith}
 use Rattle.std.proofs.lemmas.List.{take_more, take_all}
 use Rattle.console.specs.Streams.{GoesOn}
 use Rattle.console.specs.Feeding.{Continues}

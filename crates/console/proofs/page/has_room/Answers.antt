@@ -1,6 +1,5 @@
-use Rattle.std.proofs.Common.{◌≡◌, [], length, take, ap, arith, rules}
+use Rattle.std.proofs.Common.{[], length, ap, arith, rules}
 use Rattle.std.proofs.lemmas.Bool.{false≢true}
-use Rattle.console.specs.Pages.{joined}
 use Rattle.console.proofs.Pages.{joined_all, length_more, length_part}
 use Rattle.console.proofs.page.has_room.Goals as goal
 
