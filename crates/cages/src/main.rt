@@ -3,7 +3,7 @@
 #![tactic(auto)]
 
 use books::pile::STANDARD_PILE;
-use console::stream::answer_orders;
+use console::answer_orders;
 use std::io;
 
 fn main(rt: HostRuntime) -> io::Result<()> {

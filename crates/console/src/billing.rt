@@ -1,3 +1,4 @@
+//! The bill of the places that are chosen.
 ghost use Rattle.std.specs.Prelude.{◌≡◌, ◌+◌, ◌<◌, ◌≤◌, length, take};
 ghost use Rattle.bill.specs.Whole.{bill_text};
 ghost use Rattle.sheet.specs.Shown.{shown_at};

@@ -1,3 +1,4 @@
+//! The line of an order.
 ghost use Rattle.std.specs.Prelude.{◌≡◌, ◌+◌, ◌<◌, ◌≤◌, ◌++◌, Some};
 ghost use Rattle.arrayvec.specs.ArrayString.{array_string_len};
 ghost use Rattle.console.specs.Lines.{outcome_text, line_text, outcome_of, outcome_shown, head_of, text_of};

@@ -1,3 +1,4 @@
+//! The first order of a stream, as a call of the sheet.
 ghost use Rattle.std.specs.Prelude.{◌≡◌, ◌<◌, true, length, IfNone, MatchOption};
 ghost use Rattle.console.specs.Orders.{Begins, NoOrder, is_letter, begins_known};
 

@@ -1,3 +1,4 @@
+//! A stream that is there whole, in pieces, answered on a page.
 ghost use Rattle.std.specs.Prelude.{◌≡◌, ◌+◌, ◌*◌, ◌≤◌, ◌<◌, ◌++◌, ◌↔◌, length, take, drop};
 ghost use Rattle.std.specs.Prelude.{[], IsTrue, IsErr, IfOk, OnErr, Some};
 ghost use Rattle.bill.specs.Text.{put};

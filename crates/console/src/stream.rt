@@ -1,3 +1,4 @@
+//! A stream from a reader, answered to a sink.
 ghost use Rattle.std.specs.Prelude.{◌≡◌, false, OnOk};
 ghost use Rattle.std.specs.Io.KnownBytes.{Appends};
 ghost use Rattle.console.specs.Feeding.{Continues, ReadsAll, ReadsNoFurther};

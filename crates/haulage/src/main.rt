@@ -5,7 +5,7 @@ mod haulage; // the haulage layer, articles 71 and 72
 
 use crate::haulage::Haulage;
 use books::pile::STANDARD_PILE;
-use console::stream::answer_orders;
+use console::answer_orders;
 use std::io;
 
 fn main(rt: HostRuntime) -> io::Result<()> {

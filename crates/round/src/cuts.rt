@@ -1,8 +1,5 @@
 use crate::workshop::Workshop;
-use console::console::ENDING;
-use console::line::LONGEST_LINE;
-use console::page::answer_on_page;
-use console::stream::answer_orders;
+use console::{ENDING, LONGEST_LINE, answer_on_page, answer_orders};
 use std::alloc::Global;
 use std::io;
 use std::io::Read;

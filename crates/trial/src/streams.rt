@@ -1,7 +1,6 @@
 use crate::reference::CARD;
 use books::pile::STANDARD_PILE;
-use console::page::{PageTooShort, answer_on_page};
-use console::stream::answer_orders;
+use console::{PageTooShort, answer_on_page, answer_orders};
 use std::alloc::AllocError;
 use std::cell::Cell;
 use std::io;
