@@ -77,7 +77,7 @@ fn impossible_from_mark_11_and_ties_3() {
     assert!(matches!(design(&beam(), &stock, Way::LighterAlone), Decision::Impossible(4)));
 }
 
-/// The line of the reference beam, as docs/PROOFS.md has its questions.
+/// The line of the reference beam, as docs/TESTING.md has its questions.
 #[test]
 fn questions_from_all_marks() {
     let digits: String = card().iter().map(|byte| format!("{byte:02x}")).collect();

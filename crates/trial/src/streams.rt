@@ -124,11 +124,12 @@ fn ten_orders(rt: HostRuntime) -> Result<(), Fail> {
     )
 }
 
-// A reader that is interrupted once, gives some bytes, and then fails.
+// A reader that is interrupted once, gives some bytes, fails once, and is then at its end.
 #[derive(Drop)]
 struct BreaksOff<'a> {
     interrupted: bool,
     left: &'a [u8],
+    broken: bool,
 }
 
 impl Read for BreaksOff<'_> {
@@ -137,7 +138,8 @@ impl Read for BreaksOff<'_> {
             self.interrupted = true;
             return Err(io::Error::new(ErrorKind::Interrupted, "a signal came"));
         }
-        if self.left.is_empty() {
+        if self.left.is_empty() && !self.broken {
+            self.broken = true;
             return Err(io::Error::new(ErrorKind::BrokenPipe, "the line broke"));
         }
         let count = self.left.len().min(buf.len());
@@ -153,6 +155,7 @@ fn reader_that_breaks_off(rt: HostRuntime) -> Result<(), Fail> {
     let mut reader = BreaksOff {
         interrupted: false,
         left: b"S\x00\x05\x01S\x01",
+        broken: false,
     };
     let mut out = Vec::new(rt.alloc());
     let ended = answer_orders(STANDARD_PILE, &mut reader, &mut out);
@@ -169,6 +172,7 @@ fn reader_at_an_unknown_letter(rt: HostRuntime) -> Result<(), Fail> {
     let mut reader = BreaksOff {
         interrupted: true,
         left: b"S\x00\x05\x01RX\x07",
+        broken: false,
     };
     let mut out = Vec::new(rt.alloc());
     answer_orders(STANDARD_PILE, &mut reader, &mut out)?;
