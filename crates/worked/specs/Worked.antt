@@ -23,12 +23,17 @@ use Rattle.search.specs.Lightest.{Lightest}
 use Rattle.worked.specs.Reference.{reference_section, reference_materials, reference_member, reference_loads, actions_with, reference_actions, reference_beam, reference_card}
 
 -- so many bars of a mark
-abbrev pub bars : (n mark : ℕ) → T (nat_le bar_numbers.least n) → T (nat_le n bar_numbers.most) → T (nat_le main_marks.least mark) → T (nat_le mark main_marks.most) → Bars
-bars n mark a b c d = record { mark = mark; number = n; marked = (lit≤ c, lit≤ d); counted = (lit≤ a, lit≤ b) }
+abbrev pub bars : (n mark : ℕ)
+    → T (nat_le bar_numbers.least n) → T (nat_le n bar_numbers.most)
+    → T (nat_le main_marks.least mark) → T (nat_le mark main_marks.most) → Bars
+bars n mark a b c d =
+    record { mark = mark; number = n; marked = (lit≤ c, lit≤ d); counted = (lit≤ a, lit≤ b) }
 
 -- #3 ties at a spacing
-abbrev pub ties_at : (s : ℕ) → T (nat_le spacings.least s) → T (nat_le s spacings.most) → s % spacing_step ≡ 0 → Ties
-ties_at s a b c = record { mark = 3; spacing = s; marked = (lit≤ tt, lit≤ tt); spaced = ((lit≤ a, lit≤ b), c) }
+abbrev pub ties_at : (s : ℕ) → T (nat_le spacings.least s) → T (nat_le s spacings.most)
+    → s % spacing_step ≡ 0 → Ties
+ties_at s a b c =
+    record { mark = 3; spacing = s; marked = (lit≤ tt, lit≤ tt); spaced = ((lit≤ a, lit≤ b), c) }
 
 -- the faces of the examples: two #5 bars
 abbrev pub two : Bars
@@ -104,7 +109,10 @@ EveryMomentAnswered (e ∷ es) = (answer_under e.actions ≡ e.answer) × EveryM
 
 -- main mark 11 and tie mark 3 alone
 abbrev pub main_11_tie_3 : Stock
-main_11_tie_3 = with_mark (with_mark (record { main = replicate (count main_marks) false; tie = replicate (count tie_marks) false }) Main 11 true) Tie 3 true
+main_11_tie_3 =
+    with_mark
+    (with_mark (record { main = replicate (count main_marks) false; tie = replicate (count tie_marks) false })
+    Main 11 true) Tie 3 true
 
 -- the worked examples; the pile is the frame layer over the general book
 pub record WorkedExamples : Type 0 where
