@@ -17,9 +17,15 @@ use Rattle.rebar.specs.declared.beam.Beam.{Beam}
 
 -- 300 by 500, cover 40
 abbrev pub reference_section : Section
-reference_section = 
-    record { width = 300; height = 500; cover = 40; wide = (lit≤ tt, lit≤ tt);
-      high = (lit≤ tt, lit≤ tt); covered = (lit≤ tt, lit≤ tt) }
+reference_section =
+    record {
+      width = 300;
+      height = 500;
+      cover = 40;
+      wide = (lit≤ tt, lit≤ tt);
+      high = (lit≤ tt, lit≤ tt);
+      covered = (lit≤ tt, lit≤ tt);
+    }
 
 -- there is concrete of grade 210
 pub graded_210 : is_concrete 210 ≡ true
@@ -53,16 +59,26 @@ listed_75 = refl
 -- span 5,000 and shear factor 75, in the frame that resists earthquakes or not
 abbrev pub reference_member : Bool → Member
 reference_member in_frame =
-    record { in_frame = in_frame; span = 5000; shear_factor = 75; spans = (lit≤ tt, lit≤ tt);
-      reduces = (lit≤ tt, lit≤ tt); listed = listed_75 }
+    record {
+      in_frame = in_frame;
+      span = 5000;
+      shear_factor = 75;
+      spans = (lit≤ tt, lit≤ tt);
+      reduces = (lit≤ tt, lit≤ tt);
+      listed = listed_75;
+    }
 
 -- a moment and a shear
 abbrev pub force : (m v : ℤ)
     → T (le_z (neg_ℤ (pos greatest_effect)) m) → T (le_z m (pos greatest_effect))
     → T (le_z (neg_ℤ (pos greatest_effect)) v) → T (le_z v (pos greatest_effect)) → Force
 force m v a b c d =
-    record { moment = m; shear = v; bends = (le_z_yes a, le_z_yes b);
-      cuts = (le_z_yes c, le_z_yes d) }
+    record {
+      moment = m;
+      shear = v;
+      bends = (le_z_yes a, le_z_yes b);
+      cuts = (le_z_yes c, le_z_yes d);
+    }
 
 -- the dead load: a moment and a shear at each station
 abbrev pub dead : Case
@@ -93,8 +109,13 @@ reference_loads = record { dead = dead; live = live; wind = no_load; earthquake 
 -- its actions, with a bottom moment put in
 abbrev pub actions_with : (m : ℕ) → T (nat_le m 3800000) → Actions
 actions_with m t =
-    record { bottom = m; top = 96000; shear = 124000; gravity = 124000;
-      none_above_its_greatest = (lit≤ t, lit≤ tt, lit≤ tt, lit≤ tt) }
+    record {
+      bottom = m;
+      top = 96000;
+      shear = 124000;
+      gravity = 124000;
+      none_above_its_greatest = (lit≤ t, lit≤ tt, lit≤ tt, lit≤ tt);
+    }
 
 -- what the loads make
 abbrev pub reference_actions : Actions
