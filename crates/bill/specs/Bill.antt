@@ -3,12 +3,11 @@ use Rattle.std.specs.Prelude.{ℕ, List, ◌++◌, codes, decimal}
 use Rattle.rebar.specs.declared.cage.Bars.{Bars}
 use Rattle.rebar.specs.declared.cage.Ties.{Ties}
 use Rattle.search.specs.declared.decision.Choice.{Choice}
-use Rattle.bill.specs.declared.bill.TheConstants.{MOST_LINES}
 use Rattle.bill.specs.Text.{two}
 
 -- a bill has no more lines than this
 abbrev pub most_lines : ℕ
-most_lines = MOST_LINES
+most_lines = 64
 
 -- no line has more steel than this, in mm³
 abbrev pub greatest_steel : ℕ
