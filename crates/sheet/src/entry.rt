@@ -24,15 +24,14 @@ impl Entry {
         }
     }
 
-    // The entry after a mark came in or went out.
-    pub(crate) fn reopened(&self, change: &Change) -> Entry
-        ensures { result
-            ≡ reopened change.now.item.kind change.now.item.mark change.now.is_in self.now }
+    // Opens the beam again where its decision may no longer be right, after a mark came in or went out.
+    pub(crate) fn reopen(&mut self, change: &Change)
+        ensures { self.new
+            ≡ reopened change.now.item.kind change.now.item.mark change.now.is_in self.old }
     {
         match &self.decision {
-            Some(Decision::Chosen(choice)) if !change.is_in && !change.touches(&choice.cage) =>
-                *self,
-            _ => Entry::open(self.beam),
+            Some(Decision::Chosen(choice)) if !change.is_in && !change.touches(&choice.cage) => {}
+            _ => self.decision = None,
         }
     }
 }

@@ -20,12 +20,14 @@ pub(crate) struct Table {
     pub(crate) count: u32,
 }
 
-// What a place holds after a mark came in or went out.
-fn place_reopened(held: Option<Entry>, change: &Change) -> Option<Entry>
-    ensures { result
-        ≡ place_reopened change.now.item.kind change.now.item.mark change.now.is_in held }
+// Opens the beam at a place again where its decision may no longer be right.
+fn reopen_place(held: &mut Option<Entry>, change: &Change)
+    ensures { held.new
+        ≡ place_reopened change.now.item.kind change.now.item.mark change.now.is_in held.old }
 {
-    held.map(|entry| entry.reopened(change))
+    if let Some(entry) = held {
+        entry.reopen(change);
+    }
 }
 
 // Reopens every beam whose decision may no longer be right.
@@ -34,7 +36,7 @@ fn reopen(places: &mut [Option<Entry>; PLACES as usize], change: &Change)
         (place_reopened change.now.item.kind change.now.item.mark change.now.is_in) places.old }
 {
     for place in places.iter_mut() {
-        *place = place_reopened(*place, change);
+        reopen_place(place, change);
     }
 }
 
