@@ -42,29 +42,42 @@ fn judge_all(beam: &Beam, stock: &Stock) -> Vec<Judged> {
     all
 }
 
-/// The questions of a search that goes over all cages once, by their numbers but for the spacings, of which the widest comes
-/// first: one question about the ties of a mark, unless all of these cages are heavier than the best so far; and where the
-/// articles 1 to 9 hold, which look at no spacing, one about each cage that would be better than the best.
-fn count_asked(all: &[Judged]) -> usize {
-    let mut asked = 0;
-    let mut best = (i64::MAX, 0);
-    for spaced in all.chunk_by(Judged::differs_in_spacing_alone) {
+/// What a search has asked so far, and the best that it has found: its steel and its place.
+struct Search {
+    asked: usize,
+    best: (i64, usize),
+}
+
+impl Search {
+    /// Goes over cages that differ in their spacing alone, of which the widest comes first: one question about the ties of a
+    /// mark, unless all of these cages are heavier than the best so far; and where the articles 1 to 9 hold, which look at no
+    /// spacing, one about each cage that would be better than the best.
+    fn weigh(&mut self, spaced: &[Judged]) {
         let widest = &spaced[spaced.len() - 1];
-        if best.0 < widest.steel {
-            continue;
+        if self.best.0 < widest.steel {
+            return;
         }
-        asked += 1;
+        self.asked += 1;
         if (1..=9).contains(&widest.answer) {
-            continue;
+            return;
         }
         for one in spaced.iter().rev() {
-            if one.key() < best {
-                asked += 1;
-                best = if one.answer == 0 { one.key() } else { best };
+            if one.key() < self.best {
+                self.asked += 1;
+                self.best = if one.answer == 0 { one.key() } else { self.best };
             }
         }
     }
-    asked
+}
+
+/// The questions of a search that goes over the cages of equal faces first, and then over all, by their numbers but for the
+/// spacings.
+fn count_asked(all: &[Judged]) -> usize {
+    let spaced = || all.chunk_by(Judged::differs_in_spacing_alone);
+    let twins = spaced().filter(|spaced| spaced[0].cage.bottom == spaced[0].cage.top);
+    let mut search = Search { asked: 0, best: (i64::MAX, 0) };
+    twins.chain(spaced()).for_each(|spaced| search.weigh(spaced));
+    search.asked
 }
 
 /// The least questions: of a chosen cage, every cage up to it by steel and order; of an impossible beam, every cage.

@@ -83,8 +83,8 @@ fn questions_from_all_marks() {
     let digits: String = card().iter().map(|byte| format!("{byte:02x}")).collect();
     let printed = crate::questions::answer(&format!("3456789AB 345 {digits}\n")).unwrap();
     let lines: Vec<&str> = printed.lines().collect();
-    assert_eq!(lines[0], "6#3 9#3 #3@200 7964780: 2525 questions, least 12035");
-    assert_eq!(lines[1], "1 chosen from all marks: median 0.210, worst 0.210");
+    assert_eq!(lines[0], "6#3 9#3 #3@200 7964780: 1816 questions, least 12035");
+    assert_eq!(lines[1], "1 chosen from all marks: median 0.151, worst 0.151");
     assert_eq!(lines[3], "0 impossible: median 0.000, worst 0.000");
 }
 

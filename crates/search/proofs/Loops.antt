@@ -26,6 +26,11 @@ module _ {answer : Beam → Cage → ℕ} {got : Kind → ℕ → Bool} {beam : 
         ],
   )
 
+-- from one decision by another to a third
+pub by_another : (answer : Beam → Cage → ℕ) (got : Kind → ℕ → Bool) (beam : Beam) (first other last : Decision)
+    → Step answer got beam first other → Step answer got beam other last → Step answer got beam first last
+by_another answer got beam first other last r s = record { sound = λ x. s.sound (r.sound x); keeps = λ d x. s.keeps d (r.keeps d x) }
+
 -- all places done, with no cage found before
 pub settled : (answer : Beam → Cage → ℕ) (got : Kind → ℕ → Bool) (beam : Beam) (r : Decision) → Step answer got beam (Impossible 0) r
     → Done answer beam (FromStock got) r → Lightest answer got beam r

@@ -5,6 +5,7 @@ ghost use Rattle.books.specs.Answers.{AtEverySpacing};
 ghost use Rattle.stock.specs.Stock.{has};
 ghost use Rattle.search.specs.declared.places.TheConstants.{BARS, TIES, TIE_MARKS};
 ghost use Rattle.search.specs.declared.decision.Decision.{Decision};
+ghost use Rattle.search.specs.declared.decision.Decision.TheVariants.{Impossible};
 ghost use Rattle.search.specs.Lightest.{FromStock, Lightest};
 ghost use Rattle.search.specs.Search.{bars_place, ties_place, mark_place, IsByPlace};
 ghost use Rattle.search.specs.Search.{MainIn, TieIn, Covers, Step, Done, IsLike};
@@ -169,8 +170,28 @@ impl<P: Book> Search<'_, P> {
         found
     }
 
-    // The decision with the cages of one bottom and one top.
+    // The decision with the cages of one bottom and one top from stock.
     fn weigh_ties(&self, bottom: &WeighedBars, top: &WeighedBars, best: Decision) -> Decision
+        requires bars_in { MainIn (has self.now.stock.now) bottom.now.bars
+            × MainIn (has self.now.stock.now) top.now.bars }
+        requires weighed { (bottom.now.steel ≡ bars_steel self.now.beam.now bottom.now.bars)
+            × (top.now.steel ≡ bars_steel self.now.beam.now top.now.bars) }
+        ensures keeps_what_was_right { Step (P.answer self.now.pile.now) (has self.now.stock.now)
+            self.now.beam.now best result }
+        ensures right_for_these_cages { Done (P.answer self.now.pile.now) self.now.beam.now
+            (λ d. FromStock (has self.now.stock.now) d × (d.bottom ≡ bottom.now.bars)
+            × (d.top ≡ top.now.bars)) result }
+    {
+        let mut found = best;
+        for mark in 0..TIE_MARKS {
+            found = self.weigh_spacings(bottom, top, mark, found);
+        }
+        found
+    }
+
+    // The decision with the cages of one bottom and one top, with no look at them where the top is out or the bars alone are too
+    // heavy.
+    fn weigh_top(&self, bottom: &WeighedBars, top: &WeighedBars, best: Decision) -> Decision
         requires bottom_in { MainIn (has self.now.stock.now) bottom.now.bars }
         requires weighed { (bottom.now.steel ≡ bars_steel self.now.beam.now bottom.now.bars)
             × (top.now.steel ≡ bars_steel self.now.beam.now top.now.bars) }
@@ -180,14 +201,10 @@ impl<P: Book> Search<'_, P> {
             (λ d. FromStock (has self.now.stock.now) d × (d.bottom ≡ bottom.now.bars)
             × (d.top ≡ top.now.bars)) result }
     {
-        if !self.stock.has_bars(&top.bars) {
+        if !self.stock.has_bars(&top.bars) || best.stands_against(bottom.steel + top.steel) {
             return best;
         }
-        let mut found = best;
-        for mark in 0..TIE_MARKS {
-            found = self.weigh_spacings(bottom, top, mark, found);
-        }
-        found
+        self.weigh_ties(bottom, top, best)
     }
 
     // The decision with the cages of one bottom. This loop and the ones beside it are not one over a closure, since each says
@@ -204,7 +221,22 @@ impl<P: Book> Search<'_, P> {
         }
         let mut found = best;
         for top in &self.bars {
-            found = self.weigh_ties(bottom, top, found);
+            found = self.weigh_top(bottom, top, found);
+        }
+        found
+    }
+
+    // The decision with the cages whose bottom and top are equal: a first guess, after which most other cages are too heavy to
+    // be asked about.
+    fn weigh_twins(&self, best: Decision) -> Decision
+        ensures keeps_what_was_right { Step (P.answer self.now.pile.now) (has self.now.stock.now)
+            self.now.beam.now best result }
+    {
+        let mut found = best;
+        for bars in &self.bars {
+            if self.stock.has_bars(&bars.bars) {
+                found = self.weigh_ties(bars, bars, found);
+            }
         }
         found
     }
@@ -222,6 +254,18 @@ impl<P: Book> Search<'_, P> {
         }
         found
     }
+
+    // The decision: from none found, by the first guess.
+    #[tactic(auto, using(crate::proofs::Loops::by_another))]
+    fn weigh_all(&self) -> Decision
+        ensures from_none_found { Step (P.answer self.now.pile.now) (has self.now.stock.now)
+            self.now.beam.now (Impossible 0) result }
+        ensures right_for_these_cages { Done (P.answer self.now.pile.now) self.now.beam.now
+            (FromStock (has self.now.stock.now)) result }
+    {
+        let guess = self.weigh_twins(Decision::Impossible(0));
+        self.weigh_bottoms(guess)
+    }
 }
 
 /// The lightest cage from stock that the pile passes for the beam, of equals the smallest; or where none passes, the
@@ -232,5 +276,5 @@ pub fn lightest_cage<P: Book>(pile: &P, beam: &Beam, stock: &Stock) -> Decision
     ensures decision_is_the_only_one { (s : Decision)
         → Lightest (P.answer pile.now) (has stock.now) beam.now s → s ≡ result }
 {
-    Search::new(pile, beam, stock).weigh_bottoms(Decision::Impossible(0))
+    Search::new(pile, beam, stock).weigh_all()
 }
