@@ -4,8 +4,8 @@
 
 use books::pile::STANDARD_PILE;
 use console::answer_orders;
-use std::io;
 
-fn main(rt: HostRuntime) -> io::Result<()> {
-    answer_orders(STANDARD_PILE, &mut rt.stdin(), &mut rt.stdout())
+fn main(rt: HostRuntime) -> anyhow::Result<()> {
+    answer_orders(STANDARD_PILE, &mut rt.stdin(), &mut rt.stdout())?;
+    Ok(())
 }
