@@ -129,7 +129,8 @@ pub(crate) struct Face<'a> {
 }
 
 impl<'a> Face<'a> {
-    // The face that these bars make.
+    // The face that these bars make. In line, for the same reason as what asks of it (general.rt).
+    #[inline(always)]
     pub(crate) fn of(beam: &'a Beam, ties: &Ties, bars: &Bars) -> Face<'a>
         ensures of_the_beam { result.beam.now ≡ beam.now }
         ensures whether_the_outer_row_fits { result.fits ≡ test

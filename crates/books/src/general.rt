@@ -35,7 +35,9 @@ fn ask_in_shear(faces: &Faces) -> Result<(), Broken>
     ask(13, strengths.is_close_enough(ties, faces.depth()))
 }
 
-// Asks the articles 1 to 9, and gives the faces where they hold.
+// Asks the articles 1 to 9, and gives the faces where they hold. In line, since handing two faces on takes longer than most
+// articles do.
+#[inline(always)]
 fn ask_of_bars<'a>(beam: &'a Beam, cage: &'a Cage) -> Result<Faces<'a>, Broken>
     ensures { MatchResult result
         (λ faces. (first_broken

@@ -255,7 +255,7 @@ impl<P: Book> Search<'_, P> {
         found
     }
 
-    // The decision: from none found, by the first guess.
+    // The decision with all cages, from none found: the first guess, then all.
     #[tactic(auto, using(crate::proofs::Loops::by_another))]
     fn weigh_all(&self) -> Decision
         ensures from_none_found { Step (P.answer self.now.pile.now) (has self.now.stock.now)
